@@ -1,0 +1,4 @@
+pub mod Map
+pub mod Vector
+pub mod Clock
+pub mod Lists

@@ -1,0 +1,33 @@
+-- Choosing by a test, maps with one place changed, and tests of every number below a bound. Assumes nothing.
+use mathlib.Core.Bool.{Bool, true, false, _&&_, _||_}
+use Prim.Native.Nat.{ℕ, zero, suc}
+use lib.Dec.{eqb}
+
+infix 20 if_then_else_
+abbrev pub if_then_else_ {ℓ} : {A : Type ℓ} → Bool → A → A → A
+if_then_else_ true a b = a
+if_then_else_ false a b = b
+
+-- the map f, with a at i
+infixl 90 _⟨_≔_⟩
+abbrev pub _⟨_≔_⟩ {ℓ} : {A : Type ℓ} → (ℕ → A) → ℕ → A → ℕ → A
+_⟨_≔_⟩ f i a j = if eqb i j then a else f j
+
+-- the map of maps f, with a at j of i
+infixl 90 _⟨_⟩⟨_≔_⟩
+abbrev pub _⟨_⟩⟨_≔_⟩ {ℓ} : {A : Type ℓ} → (ℕ → ℕ → A) → ℕ → ℕ → A → ℕ → ℕ → A
+_⟨_⟩⟨_≔_⟩ f i j a = f ⟨ i ≔ f i ⟨ j ≔ a ⟩ ⟩
+
+-- whether a test passes at every number below m, and at some number below m
+unfoldable pub all : ℕ → (ℕ → Bool) → Bool
+all zero p = true
+all (suc m) p = all m p && p m
+
+unfoldable pub any : ℕ → (ℕ → Bool) → Bool
+any zero p = false
+any (suc m) p = any m p || p m
+
+-- the least number below m at which a test passes, and m where there is none
+unfoldable pub least : ℕ → (ℕ → Bool) → ℕ
+least zero p = 0
+least (suc m) p = if any m p then least m p else if p m then m else suc m

@@ -1,0 +1,74 @@
+// A clock vector by value: for each of eight sites the greatest clock number seen.
+ghost use mathlib.Core.Path.{_≡_};
+ghost use Prim.Native.Nat.{_<_, max};
+ghost use Rattle.clock.specs.Vector.{zeros, join, note};
+ghost use Rattle.clock.specs.Clock.{columns, compare};
+
+pub struct Clock {
+    pub col: [u16; 8],
+}
+
+// Whether a vector is within another in every column, else its lowest column that is beyond, with its number.
+pub enum Compared {
+    Within,
+    Beyond { column: usize, number: u16 },
+}
+
+fn greater(a: u16, b: u16) -> u16
+    ensures { λ r. ⌜ r ≡ max a b ⌝ }
+{
+    if a < b { b } else { a }
+}
+
+impl Clock {
+    pub const COLUMNS: usize = 8;
+
+    pub fn zero() -> Self
+        ensures { λ r. ⌜ columns r ≡ zeros ⌝ }
+    {
+        Clock { col: [0u16; 8] }
+    }
+
+    // Joining two clock vectors keeps the greater number in each column.
+    pub fn join(self, other: Clock) -> Self
+        ensures { λ r. ⌜ columns r ≡ join (columns self) (columns other) ⌝ }
+    {
+        let mut a = self.col;
+        let b = other.col;
+        let mut i = 0;
+        while i < Clock::COLUMNS {
+            a[i] = greater(a[i], b[i]);
+            i += 1;
+        }
+        Clock { col: a }
+    }
+
+    pub fn note(self, site: usize, clock: u16) -> Self
+        requires { ⌜ site < 8 ⌝ }
+        ensures { λ r. ⌜ columns r ≡ note (columns self) site clock ⌝ }
+    {
+        let mut a = self.col;
+        a[site] = greater(a[site], clock);
+        Clock { col: a }
+    }
+
+    pub fn compare(self, other: Clock) -> Compared
+        ensures { λ r. ⌜ r ≡ compare (columns self) (columns other) ⌝ }
+    {
+        let a = self.col;
+        let b = other.col;
+        let mut i = 0;
+        while i < Clock::COLUMNS {
+            let x = a[i];
+            let y = b[i];
+            if y < x {
+                return Compared::Beyond {
+                    column: i,
+                    number: x,
+                };
+            }
+            i += 1;
+        }
+        Compared::Within
+    }
+}
