@@ -1,0 +1,178 @@
+-- The places of the table as fields of the state. Assumes nothing.
+use mathlib.Core.Path.{_≡_, refl, ap, _∙_, fun-ext}
+use mathlib.Core.List.{List, [], _++_}
+use lib.ListN.{length, getD, take, drop, replicate}
+use Prim.Native.Nat.{ℕ, zero, suc, _+_, _*_, _-_, _<_}
+use native.Mathlib.Omega.{arith}
+use Rattle.clock.specs.Map.{_⟨_≔_⟩, _⟨_⟩⟨_≔_⟩}
+use lib.Seq.{drop-nil}
+use Rattle.clock.proofs.Cells.{cells-zeros}
+use Rattle.clock.specs.Vector.{Vector, zeros}
+use Rattle.layout.specs.Codec.{Codec, number, _then_, row}
+use Rattle.layout.specs.State.{Fields, Entry, Update, Parts, clock, vector, fields, square, entry, update, toState, ofState, table, withApplied, withDepends, withStore, withUpdates, toEntry, toUpdate, stateOf}
+use Rattle.layout.specs.Records.{fieldsAt, cells2}
+use Rattle.layout.proofs.Splice.{part}
+use Rattle.layout.proofs.Fields.{Field, at-place, inner, first, second, element, clothed, read-part, write-part, read-byte}
+
+abbrev byte : Codec ℕ
+byte = number 1
+
+abbrev updates : Codec (ℕ → ℕ → Update)
+updates = row 8 (row 16 update)
+
+abbrev store : Codec ((ℕ → ℕ → Entry) × (ℕ → ℕ → Update))
+store = row 8 (row 64 entry) then updates
+
+abbrev depends : Codec ((ℕ → Vector) × ((ℕ → ℕ → Entry) × (ℕ → ℕ → Update)))
+depends = square then store
+
+-- from the applied square on
+abbrev applied : Codec ((ℕ → Vector) × ((ℕ → Vector) × ((ℕ → ℕ → Entry) × (ℕ → ℕ → Update))))
+applied = square then depends
+
+-- behind the four bytes of the header
+behind : Field (byte then byte then byte then byte then applied) applied 4 (λ p. p .1 .1 .1 .1) (λ p v. (p .0, (p .1 .0, (p .1 .1 .0, (p .1 .1 .1 .0, v)))))
+behind =
+    inner (second byte (byte then byte then byte then applied))
+    (inner (second byte (byte then byte then applied)) (inner (second byte (byte then applied)) (second byte applied)))
+
+abbrev in-table : {B : Type 0} {p : Codec B} {o : ℕ} {get : Parts → B} {put : Parts → B → Parts} → Field (byte then byte then byte then byte then applied) p o get put
+    → Field table p o (λ S. get (ofState S)) (λ S v. toState (put (ofState S) v))
+in-table = clothed toState ofState (λ a. refl)
+
+-- the header
+pub n-byte : Field table byte 0 (λ S. S .n) (λ S v. toState (v, ofState S .1))
+n-byte = in-table (first byte (byte then byte then byte then applied))
+
+pub k-byte : Field table byte 1 (λ S. S .k) (λ S v. toState (S .n, (v, ofState S .1 .1)))
+k-byte = in-table (inner (second byte (byte then byte then byte then applied)) (first byte (byte then byte then applied)))
+
+pub byte2 : Field table byte 2 (λ S. S .byte2) (λ S v. toState (S .n, (S .k, (v, ofState S .1 .1 .1))))
+byte2 =
+    in-table
+    (inner (second byte (byte then byte then byte then applied)) (inner (second byte (byte then byte then applied)) (first byte (byte then applied))))
+
+pub byte3 : Field table byte 3 (λ S. S .byte3) (λ S v. toState (S .n, (S .k, (S .byte2, (v, ofState S .1 .1 .1 .1)))))
+byte3 =
+    in-table
+    (inner (second byte (byte then byte then byte then applied))
+    (inner (second byte (byte then byte then applied)) (inner (second byte (byte then applied)) (first byte applied))))
+
+-- the squares, their rows and their numbers
+pub applied-square : Field table square 4 (λ S. S .applied) withApplied
+applied-square = in-table (inner behind (first square depends))
+
+pub depends-square : Field table square 132 (λ S. S .depends) withDepends
+depends-square = in-table (inner behind (inner (second square depends) (first square store)))
+
+pub applied-number : (s o : ℕ) → s < 8 → o < 8
+    → Field table clock (4 + (s * 8 + o) * 2) (λ S. S .applied s o) (λ S c. withApplied S (S .applied ⟨ s ⟩⟨ o ≔ c ⟩))
+applied-number s o hs ho = at-place (omega arith) (inner applied-square (inner (element vector 8 s hs) (element clock 8 o ho)))
+
+pub depends-row : (s : ℕ) → s < 8 → Field table vector (132 + s * 16) (λ S. S .depends s) (λ S v. withDepends S (S .depends ⟨ s ≔ v ⟩))
+depends-row s hs = inner depends-square (element vector 8 s hs)
+
+-- the entry of key x at site s, and the update at place p of origin o
+pub entry-place : (s x : ℕ) → s < 8 → x < 64
+    → Field table entry (260 + (s * 64 + x) * 24) (λ S. S .store s x) (λ S e. withStore S (S .store ⟨ s ⟩⟨ x ≔ e ⟩))
+entry-place s x hs hx =
+    at-place (omega arith)
+    (inner (in-table (inner behind (inner (second square depends) (inner (second square store) (first (row 8 (row 64 entry)) updates)))))
+    (inner (element (row 64 entry) 8 s hs) (element entry 64 x hx)))
+
+pub update-place : (o p : ℕ) → o < 8 → p < 16
+    → Field table update (12548 + (o * 16 + p) * 24) (λ S. S .updates o p) (λ S u. withUpdates S (S .updates ⟨ o ⟩⟨ p ≔ u ⟩))
+update-place o p ho hp =
+    at-place (omega arith)
+    (inner (in-table (inner behind (inner (second square depends) (inner (second square store) (second (row 8 (row 64 entry)) updates)))))
+    (inner (element (row 16 update) 8 o ho) (element update 16 p hp)))
+
+-- ## The places in an entry or an update
+
+abbrev after-value : Codec (ℕ × (ℕ × (ℕ × Vector)))
+after-value = byte then byte then clock then vector
+
+abbrev after-tag : Codec (ℕ × (ℕ × Vector))
+after-tag = byte then clock then vector
+
+abbrev after-zero : Codec (ℕ × Vector)
+after-zero = clock then vector
+
+pub value-field : Field fields (number 4) 0 (λ p. p .0) (λ p v. (v, p .1))
+value-field = first (number 4) after-value
+
+pub tag-field : Field fields byte 4 (λ p. p .1 .0) (λ p v. (p .0, (v, p .1 .1)))
+tag-field = inner (second (number 4) after-value) (first byte after-tag)
+
+pub zero-field : Field fields byte 5 (λ p. p .1 .1 .0) (λ p v. (p .0, (p .1 .0, (v, p .1 .1 .1))))
+zero-field = inner (second (number 4) after-value) (inner (second byte after-tag) (first byte after-zero))
+
+pub clock-field : Field fields clock 6 (λ p. p .1 .1 .1 .0) (λ p v. (p .0, (p .1 .0, (p .1 .1 .0, (v, p .1 .1 .1 .1)))))
+clock-field = inner (second (number 4) after-value) (inner (second byte after-tag) (inner (second byte after-zero) (first clock vector)))
+
+pub depends-field : Field fields vector 8 (λ p. p .1 .1 .1 .1) (λ p v. (p .0, (p .1 .0, (p .1 .1 .0, (p .1 .1 .1 .0, v)))))
+depends-field = inner (second (number 4) after-value) (inner (second byte after-tag) (inner (second byte after-zero) (second clock vector)))
+
+pub fields-read : (l : List ℕ)
+    → (number 4 .dec (take 4 l), (getD l 4 0, (getD l 5 0, (clock .dec (part l 6 2), vector .dec (part l 8 16))))) ≡ fieldsAt l
+unfolding fieldsAt
+fields-read l i =
+    (read-part value-field l i, (read-byte tag-field l i, (read-byte zero-field l i, (read-part clock-field l i, read-part depends-field l i))))
+
+-- the bytes after the five stores of an entry or an update
+module _ (l b₁ b₂ b₃ b₄ b₅ : List ℕ) where
+  abbrev l₁ : List ℕ
+  l₁ = b₁ ++ drop 4 l
+
+  abbrev l₂ : List ℕ
+  l₂ = take 4 l₁ ++ (b₂ ++ drop 1 (drop 4 l₁))
+
+  abbrev l₃ : List ℕ
+  l₃ = take 5 l₂ ++ (b₃ ++ drop 1 (drop 5 l₂))
+
+  abbrev l₄ : List ℕ
+  l₄ = take 6 l₃ ++ (b₄ ++ drop 2 (drop 6 l₃))
+
+  pub fields-written : length l ≡ 24 → length l₁ ≡ 24 → length l₂ ≡ 24 → length l₃ ≡ 24 → length l₄ ≡ 24
+      → length b₁ ≡ length (take 4 l) → length b₂ ≡ length (part l₁ 4 1) → length b₃ ≡ length (part l₂ 5 1)
+      → length b₄ ≡ length (part l₃ 6 2) → length b₅ ≡ length (part l₄ 8 16)
+      → fieldsAt (take 8 l₄ ++ (b₅ ++ drop 16 (drop 8 l₄))) ≡ (number 4 .dec b₁, (byte .dec b₂, (byte .dec b₃, (clock .dec b₄, vector .dec b₅))))
+  unfolding fieldsAt
+  fields-written h h₁ h₂ h₃ h₄ k₁ k₂ k₃ k₄ k₅ =
+      write-part depends-field l₄ b₅ h₄ k₅
+      ∙ ap (λ (x : Fields). (x .0, (x .1 .0, (x .1 .1 .0, (x .1 .1 .1 .0, vector .dec b₅)))))
+      (write-part clock-field l₃ b₄ h₃ k₄
+      ∙ ap (λ (x : Fields). (x .0, (x .1 .0, (x .1 .1 .0, (clock .dec b₄, x .1 .1 .1 .1)))))
+      (write-part zero-field l₂ b₃ h₂ k₃
+      ∙ ap (λ (x : Fields). (x .0, (x .1 .0, (byte .dec b₃, x .1 .1 .1))))
+      (write-part tag-field l₁ b₂ h₁ k₂ ∙ ap (λ (x : Fields). (x .0, (byte .dec b₂, x .1 .1))) (write-part value-field l b₁ h k₁))))
+
+-- a square of zeros
+pub cells2-zeros : (m k : ℕ) → cells2 (replicate m (replicate k 0)) ≡ λ i. zeros
+cells2-zeros m k = fun-ext (go m)
+  where
+    go : (m i : ℕ) → cells2 (replicate m (replicate k 0)) i ≡ zeros
+    go zero i = refl
+    go (suc m) zero = cells-zeros k
+    go (suc m) (suc i) = go m i
+
+-- a vector of no bytes
+pub no-vector : vector .dec [] ≡ zeros
+no-vector = fun-ext λ j. ap (clock .dec) (ap (take 2) (drop-nil (j * 2)))
+
+-- the clock and the tag of an entry or an update, read by themselves
+pub clock-read : (l : List ℕ) → clock .dec (part l 6 2) ≡ fieldsAt l .1 .1 .1 .0
+clock-read l = ap (λ (p : Fields). p .1 .1 .1 .0) (fields-read l)
+
+pub tag-read : (l : List ℕ) → getD l 4 0 ≡ fieldsAt l .1 .0
+tag-read l = ap (λ (p : Fields). p .1 .0) (fields-read l)
+
+-- an entry and an update, read in their places as code does
+pub entry-read : (t : List ℕ) (s x : ℕ) → s < 8 → x < 64 → let at = 260 + (s * 64 + x) * 24 in toEntry (fieldsAt (part t at (at + 24 - at))) ≡ stateOf t .store s x
+unfolding fieldsAt stateOf
+entry-read t s x hs hx = read-part (entry-place s x hs hx) t
+
+pub update-read : (t : List ℕ) (o p : ℕ) → o < 8 → p < 16
+    → let at = 12548 + (o * 16 + p) * 24 in toUpdate (fieldsAt (part t at (at + 24 - at))) ≡ stateOf t .updates o p
+unfolding fieldsAt stateOf
+update-read t o p ho hp = read-part (update-place o p ho hp) t

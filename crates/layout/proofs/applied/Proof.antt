@@ -1,0 +1,22 @@
+use mathlib.Core.Path.{_∙_}
+use Rattle.layout.specs.State.{stateOf}
+use Rattle.layout.proofs.Fields.{read-part}
+use Rattle.layout.proofs.Places.{applied-square}
+use borrow.Author.Needs.{needs}
+use Rattle.layout.proofs.applied.Statement.{statement}
+use Rattle.layout.proofs.applied.Tie as tie
+
+returns : tie.Need-returns
+unfolding stateOf
+returns c = c .read-square .ensures ∙ read-part applied-square (c .before .before .before .args .t .now)
+
+pub applied-spec : {M : Type 1} → statement M
+applied-spec =
+    tie.close
+    (tie.spec
+    (λ c. search needs)  -- add-read-square
+    (λ c. search needs)  -- sub-read-square
+    (λ c. search needs)  -- part-read-square-start
+    (λ c. search needs)  -- part-read-square-end
+    (λ c κs. search needs)  -- read-square-requires
+    returns)

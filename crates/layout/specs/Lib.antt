@@ -1,0 +1,5 @@
+pub mod Codec
+pub mod State
+pub mod Ranges
+pub mod Records
+pub mod Theorems

@@ -1,0 +1,28 @@
+-- Lists of bytes, and the states that have bytes of their own: numbers within their widths, and zero past the rows. Assumes nothing.
+use mathlib.Core.Path.{_≡_}
+use mathlib.Core.List.{List, []}
+use Prim.Native.Nat.{ℕ, _^_, _≤_, _<_}
+use lib.ListN.{getD}
+use Rattle.clock.specs.Vector.{Vector}
+use Rattle.layout.specs.Codec.{Codec, row}
+use Rattle.layout.specs.State.{State, Fields, ofEntry, ofUpdate, clock, vector, entry, update}
+
+unfoldable pub Bytes : List ℕ → Type 0
+Bytes l = (i : ℕ) → getD l i 0 < 256
+
+-- m values in range, and past them what no bytes read as
+abbrev pub Rows : {A : Type 0} → ℕ → Codec A → (A → Type 0) → (ℕ → A) → Type 0
+Rows m c ok a = ((j : ℕ) → j < m → ok (a j)) × ((j : ℕ) → m ≤ j → a j ≡ c .dec [])
+
+abbrev pub FitsVector : Vector → Type 0
+FitsVector v = Rows 8 clock (λ c. c < 256 ^ 2) v
+
+abbrev pub FitsFields : Fields → Type 0
+FitsFields p = (p .0 < 256 ^ 4) × ((p .1 .0 < 256 ^ 1) × ((p .1 .1 .0 < 256 ^ 1) × ((p .1 .1 .1 .0 < 256 ^ 2) × FitsVector (p .1 .1 .1 .1))))
+
+abbrev pub Fits : State → Type 0
+Fits S =
+    (S .n < 256 ^ 1) × ((S .k < 256 ^ 1) × ((S .byte2 < 256 ^ 1) × ((S .byte3 < 256 ^ 1)
+    × (Rows 8 vector FitsVector (S .applied) × (Rows 8 vector FitsVector (S .depends)
+    × (Rows 8 (row 64 entry) (Rows 64 entry (λ e. FitsFields (ofEntry e))) (S .store)
+    × Rows 8 (row 16 update) (Rows 16 update (λ u. FitsFields (ofUpdate u))) (S .updates)))))))

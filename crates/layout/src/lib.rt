@@ -1,0 +1,288 @@
+// The bytes of the table: numbers, clock vectors, entries and updates, read and written at their places.
+ghost use mathlib.Core.Path.{_≡_};
+ghost use Prim.Native.Nat.{_+_, _*_, _<_};
+ghost use lib.ListN.{length};
+ghost use Rattle.clock.specs.Map.{_⟨_≔_⟩, _⟨_⟩⟨_≔_⟩};
+ghost use Rattle.clock.specs.Clock.{columns};
+ghost use Rattle.layout.specs.Codec.{number};
+ghost use Rattle.layout.specs.State.{clock, vector, square, stateOf, allZero, withCounts, withApplied, withDepends, withStore, withUpdates};
+ghost use Rattle.layout.specs.Records.{Headed, cells2, fieldsAt, fieldsOf, entryOf, updateOf};
+use clock::Clock;
+
+// An entry or an update: tag is the entry's origin or the update's key, zero its zero byte.
+pub struct Record {
+    pub value: u32,
+    pub tag: u8,
+    pub zero: u8,
+    pub clock: u16,
+    pub depends: Clock,
+}
+
+pub struct Header {
+    pub n: u8,
+    pub k: u8,
+    pub byte2: u8,
+    pub byte3: u8,
+}
+
+pub struct Table {}
+
+impl Table {
+    pub const SITES: usize = 8;
+
+    pub const KEYS: usize = 64;
+
+    pub const PLACES: usize = 16;
+
+    pub const LAST_CLOCK: u16 = 65535;
+
+    pub const BYTES: usize = 15620;
+
+    pub const APPLIED: usize = 4;
+
+    pub const DEPENDS: usize = 132;
+
+    pub const STORE: usize = 260;
+
+    pub const UPDATES: usize = 12548;
+
+    pub const CLOCK: usize = 2;
+
+    pub const VECTOR: usize = 16;
+
+    pub const SQUARE: usize = 128;
+
+    pub const RECORD: usize = 24;
+}
+
+pub fn wide(x: u16) -> usize
+    ensures { λ r. ⌜ (r ≡ x) × (r < 65536) ⌝ }
+{
+    x as usize
+}
+
+pub fn wide_byte(x: u8) -> usize
+    ensures { λ r. ⌜ (r ≡ x) × (r < 256) ⌝ }
+{
+    x as usize
+}
+
+fn clock_of(a: u8, b: u8) -> u16
+    ensures { λ r. ⌜ r ≡ a * 256 + b ⌝ }
+{
+    (a as u16) * 256 + (b as u16)
+}
+
+fn value_of(a: u8, b: u8, c: u8, d: u8) -> u32
+    ensures { λ r. ⌜ r ≡ ((a * 256 + b) * 256 + c) * 256 + d ⌝ }
+{
+    (((a as u32) * 256 + (b as u32)) * 256 + (c as u32)) * 256 + (d as u32)
+}
+
+pub fn read_clock(s: &[u8]) -> u16
+    requires { ⌜ length (now s) ≡ 2 ⌝ }
+    ensures { λ r. ⌜ r ≡ clock .dec (now (s .entry)) ⌝ }
+{
+    clock_of(s[0], s[1])
+}
+
+pub fn read_value(s: &[u8]) -> u32
+    requires { ⌜ length (now s) ≡ 4 ⌝ }
+    ensures { λ r. ⌜ r ≡ number 4 .dec (now (s .entry)) ⌝ }
+{
+    value_of(s[0], s[1], s[2], s[3])
+}
+
+pub fn write_byte(s: &mut [u8], v: u8)
+    requires { ⌜ length (now s) ≡ 1 ⌝ }
+    ensures { λ _. ⌜ number 1 .dec (now (s .exit)) ≡ v ⌝ }
+{
+    s[0] = v;
+}
+
+pub fn write_clock(s: &mut [u8], v: u16)
+    requires { ⌜ length (now s) ≡ 2 ⌝ }
+    ensures { λ _. ⌜ clock .dec (now (s .exit)) ≡ v ⌝ }
+{
+    s[0] = (v / 256) as u8;
+    s[1] = (v % 256) as u8;
+}
+
+pub fn write_value(s: &mut [u8], v: u32)
+    requires { ⌜ length (now s) ≡ 4 ⌝ }
+    ensures { λ _. ⌜ number 4 .dec (now (s .exit)) ≡ v ⌝ }
+{
+    s[0] = (v / 16777216) as u8;
+    s[1] = (v / 65536 % 256) as u8;
+    s[2] = (v / 256 % 256) as u8;
+    s[3] = (v % 256) as u8;
+}
+
+pub fn read_vector(s: &[u8]) -> Clock
+    requires { ⌜ length (now s) ≡ 16 ⌝ }
+    ensures { λ r. ⌜ columns r ≡ vector .dec (now (s .entry)) ⌝ }
+{
+    let mut a = [0u16; 8];
+    let mut i = 0;
+    while i < Table::SITES {
+        let at = i * Table::CLOCK;
+        a[i] = read_clock(&s[at..at + Table::CLOCK]);
+        i += 1;
+    }
+    Clock { col: a }
+}
+
+pub fn write_vector(s: &mut [u8], c: Clock)
+    requires { ⌜ length (now s) ≡ 16 ⌝ }
+    ensures { λ _. ⌜ vector .dec (now (s .exit)) ≡ columns c ⌝ }
+{
+    let a = c.col;
+    let mut i = 0;
+    while i < Table::SITES {
+        let at = i * Table::CLOCK;
+        write_clock(&mut s[at..at + Table::CLOCK], a[i]);
+        i += 1;
+    }
+}
+
+// A square of eight rows by eight columns.
+pub fn read_square(s: &[u8]) -> [[u16; 8]; 8]
+    requires { ⌜ length (now s) ≡ 128 ⌝ }
+    ensures { λ r. ⌜ cells2 r ≡ square .dec (now (s .entry)) ⌝ }
+{
+    let mut a = [[0u16; 8]; 8];
+    let mut i = 0;
+    while i < Table::SITES {
+        let at = i * Table::VECTOR;
+        let row = read_vector(&s[at..at + Table::VECTOR]);
+        let col = row.col;
+        a[i] = col;
+        i += 1;
+    }
+    a
+}
+
+pub fn read_record(s: &[u8]) -> Record
+    requires { ⌜ length (now s) ≡ 24 ⌝ }
+    ensures { λ r. ⌜ fieldsOf r ≡ fieldsAt (now (s .entry)) ⌝ }
+{
+    let value = read_value(&s[0..4]);
+    let clock = read_clock(&s[6..8]);
+    let depends = read_vector(&s[8..24]);
+    Record {
+        value: value,
+        tag: s[4],
+        zero: s[5],
+        clock: clock,
+        depends: depends,
+    }
+}
+
+// An entry or an update is written whole.
+pub fn write_record(s: &mut [u8], r: Record)
+    requires { ⌜ length (now s) ≡ 24 ⌝ }
+    ensures { λ _. ⌜ fieldsAt (now (s .exit)) ≡ fieldsOf r ⌝ }
+{
+    let depends = r.depends;
+    write_value(&mut s[0..4], r.value);
+    write_byte(&mut s[4..5], r.tag);
+    write_byte(&mut s[5..6], r.zero);
+    write_clock(&mut s[6..8], r.clock);
+    write_vector(&mut s[8..24], depends);
+}
+
+// The header: n, k and the two bytes after them.
+pub fn read_header(t: &[u8]) -> Header
+    requires { ⌜ length (now t) ≡ 15620 ⌝ }
+    ensures { λ r. ⌜ Headed r (stateOf (now (t .entry))) ⌝ }
+{
+    Header {
+        n: t[0],
+        k: t[1],
+        byte2: t[2],
+        byte3: t[3],
+    }
+}
+
+pub fn set_counts(t: &mut [u8], n: u8, k: u8)
+    requires { ⌜ length (now t) ≡ 15620 ⌝ }
+    ensures { λ _. ⌜ stateOf (now (t .exit)) ≡ withCounts (stateOf (now (t .entry))) n k ⌝ }
+{
+    write_byte(&mut t[0..1], n);
+    write_byte(&mut t[1..2], k);
+}
+
+// All bytes zero.
+pub fn clear(t: &mut [u8])
+    requires { ⌜ length (now t) ≡ 15620 ⌝ }
+    ensures { λ _. ⌜ stateOf (now (t .exit)) ≡ allZero ⌝ }
+{
+    let mut i = 0;
+    while i < Table::BYTES {
+        t[i] = 0;
+        i += 1;
+    }
+}
+
+// The applied counts and the dependencies, a row for each site.
+pub fn applied(t: &[u8]) -> [[u16; 8]; 8]
+    requires { ⌜ length (now t) ≡ 15620 ⌝ }
+    ensures { λ r. ⌜ cells2 r ≡ stateOf (now (t .entry)) .applied ⌝ }
+{
+    read_square(&t[Table::APPLIED..Table::APPLIED + Table::SQUARE])
+}
+
+pub fn depends(t: &[u8]) -> [[u16; 8]; 8]
+    requires { ⌜ length (now t) ≡ 15620 ⌝ }
+    ensures { λ r. ⌜ cells2 r ≡ stateOf (now (t .entry)) .depends ⌝ }
+{
+    read_square(&t[Table::DEPENDS..Table::DEPENDS + Table::SQUARE])
+}
+
+pub fn entry_at(t: &[u8], s: usize, x: usize) -> Record
+    requires { ⌜ (length (now t) ≡ 15620) × (s < 8) × (x < 64) ⌝ }
+    ensures { λ r. ⌜ entryOf r ≡ stateOf (now (t .entry)) .store s x ⌝ }
+{
+    let at = Table::STORE + (s * Table::KEYS + x) * Table::RECORD;
+    read_record(&t[at..at + Table::RECORD])
+}
+
+pub fn update_at(t: &[u8], o: usize, p: usize) -> Record
+    requires { ⌜ (length (now t) ≡ 15620) × (o < 8) × (p < 16) ⌝ }
+    ensures { λ r. ⌜ updateOf r ≡ stateOf (now (t .entry)) .updates o p ⌝ }
+{
+    let at = Table::UPDATES + (o * Table::PLACES + p) * Table::RECORD;
+    read_record(&t[at..at + Table::RECORD])
+}
+
+pub fn set_applied(t: &mut [u8], s: usize, o: usize, c: u16)
+    requires { ⌜ (length (now t) ≡ 15620) × (s < 8) × (o < 8) ⌝ }
+    ensures { λ _. ⌜ stateOf (now (t .exit)) ≡ withApplied (stateOf (now (t .entry))) (stateOf (now (t .entry)) .applied ⟨ s ⟩⟨ o ≔ c ⟩) ⌝ }
+{
+    let at = Table::APPLIED + (s * Table::SITES + o) * Table::CLOCK;
+    write_clock(&mut t[at..at + Table::CLOCK], c);
+}
+
+pub fn set_depends(t: &mut [u8], s: usize, v: Clock)
+    requires { ⌜ (length (now t) ≡ 15620) × (s < 8) ⌝ }
+    ensures { λ _. ⌜ stateOf (now (t .exit)) ≡ withDepends (stateOf (now (t .entry))) (stateOf (now (t .entry)) .depends ⟨ s ≔ columns v ⟩) ⌝ }
+{
+    let at = Table::DEPENDS + s * Table::VECTOR;
+    write_vector(&mut t[at..at + Table::VECTOR], v);
+}
+
+pub fn set_entry(t: &mut [u8], s: usize, x: usize, e: Record)
+    requires { ⌜ (length (now t) ≡ 15620) × (s < 8) × (x < 64) ⌝ }
+    ensures { λ _. ⌜ stateOf (now (t .exit)) ≡ withStore (stateOf (now (t .entry))) (stateOf (now (t .entry)) .store ⟨ s ⟩⟨ x ≔ entryOf e ⟩) ⌝ }
+{
+    let at = Table::STORE + (s * Table::KEYS + x) * Table::RECORD;
+    write_record(&mut t[at..at + Table::RECORD], e);
+}
+
+pub fn set_update(t: &mut [u8], o: usize, p: usize, u: Record)
+    requires { ⌜ (length (now t) ≡ 15620) × (o < 8) × (p < 16) ⌝ }
+    ensures { λ _. ⌜ stateOf (now (t .exit)) ≡ withUpdates (stateOf (now (t .entry))) (stateOf (now (t .entry)) .updates ⟨ o ⟩⟨ p ≔ updateOf u ⟩) ⌝ }
+{
+    let at = Table::UPDATES + (o * Table::PLACES + p) * Table::RECORD;
+    write_record(&mut t[at..at + Table::RECORD], u);
+}
