@@ -1,0 +1,13 @@
+pub mod Given
+pub mod Tested
+pub mod Ready
+pub mod Keeps
+pub mod Draining
+pub mod Turns
+pub mod Sums
+pub mod Tries
+pub mod After
+pub mod Codes
+pub mod Serving
+pub mod Fitting
+pub mod Outcomes

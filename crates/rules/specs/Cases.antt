@@ -1,0 +1,97 @@
+-- The starred cases of document 01 and its schedule, as one table of calls and what they show, with one proof. Assumes nothing.
+use mathlib.Core.Path.{_≡_, refl}
+use mathlib.Core.List.{List, [], _∷_, _++_, map}
+use Prim.Native.Nat.{ℕ}
+use lib.Dec.{eqb}
+use Rattle.clock.specs.Map.{if_then_else_, all, any, least}
+use lib.ListN.{replicate}
+use Rattle.layout.specs.State.{State, bytesOf}
+use Rattle.rules.specs.Sound.{sound, header, counted, blank, written, smallest, lowest, holds, retains}
+use Rattle.rules.specs.Steps.{Numbers, refused, done, opened, put, learn, get, deliver}
+use Rattle.rules.specs.Refusals.{open-refusals, full, put-refusals, get-refusals, deliver-refusals, drain-refusals}
+use Rattle.rules.specs.Drain.{try, passes, drained, drain}
+use Rattle.rules.specs.Calls.{Call, Put, Get, Deliver, Drain, refusals, beside, step, run}
+
+-- opens every rule, for what is computed
+unfoldable pub rules : ℕ
+unfolding all any least sound header counted blank written smallest lowest holds retains opened put learn get deliver open-refusals full put-refusals get-refusals deliver-refusals drain-refusals try passes drained drain refusals beside step run
+rules = 0
+
+-- calls on a freshly opened table, their answers, and what is seen of the table before and after the last call
+record Case : Type 0 where
+  number : ℕ
+  table : State
+  calls : List Call
+  answers : List Numbers
+  look : State → State → List ℕ
+  seen : List ℕ
+
+abbrev answered : State → List Call → List Numbers
+answered S [] = []
+answered S (c ∷ cs) = run S c .answer ∷ answered (run S c .after) cs
+
+abbrev sight : (State → State → List ℕ) → State → List Call → List ℕ
+sight f S [] = []
+sight f S (c ∷ []) = f S (run S c .after)
+sight f S (c ∷ d ∷ cs) = sight f (run S c .after) (d ∷ cs)
+
+abbrev case : ℕ → State → List Call → List Numbers → Case
+case i S cs rs = record { number = i; table = S; calls = cs; answers = rs; look = λ S T. []; seen = [] }
+
+-- a case with a sentence on the table
+abbrev case-of : ℕ → State → List Call → List Numbers → (State → State → List ℕ) → List ℕ → Case
+case-of i S cs rs f l = record { number = i; table = S; calls = cs; answers = rs; look = f; seen = l }
+
+-- 1 where all bytes are the same
+abbrev same : List ℕ → List ℕ → ℕ
+same [] [] = 1
+same [] (y ∷ ys) = 0
+same (x ∷ xs) [] = 0
+same (x ∷ xs) (y ∷ ys) = if eqb x y then same xs ys else 0
+
+abbrev unchanged : State → State → List ℕ
+unchanged S T = same (bytesOf S) (bytesOf T) ∷ []
+
+abbrev fives : List Numbers
+fives =
+    done 0 0 1 5 ∷ done 0 0 2 5 ∷ done 0 0 3 5 ∷ done 0 0 4 5 ∷ done 0 0 5 5 ∷ done 0 0 6 5 ∷ done 0 0 7 5 ∷ done 0 0 8 5
+    ∷ done 0 0 9 5 ∷ done 0 0 10 5 ∷ done 0 0 11 5 ∷ done 0 0 12 5 ∷ done 0 0 13 5 ∷ done 0 0 14 5 ∷ done 0 0 15 5 ∷ done 0 0 16 5 ∷ []
+
+abbrev ten : (site clock : ℕ) → Numbers
+ten j c = record { code = 10; key = 0; site = j; clock = c; value = 0 }
+
+abbrev spent : (deliveries tries : ℕ) → Numbers
+spent d t = record { code = 11; key = 0; site = 0; clock = d; value = t }
+
+cases : List Case
+cases =
+    case 1 (opened 2 2) (Put 0 0 5 ∷ []) (done 0 0 1 5 ∷ [])
+    ∷ case 3 (opened 2 2) (Put 1 0 5 ∷ Put 2 0 5 ∷ []) (done 0 1 1 5 ∷ refused 4 ∷ [])
+    ∷ case 4 (opened 2 2) (Put 0 1 5 ∷ Put 0 2 5 ∷ []) (done 1 0 1 5 ∷ refused 6 ∷ [])
+    ∷ case 5 (opened 2 2) (Deliver 0 0 ∷ []) (refused 5 ∷ [])
+    ∷ case 6 (opened 2 2) (Deliver 1 0 ∷ []) (refused 9 ∷ [])
+    ∷ case-of 7 (opened 2 2) (replicate 17 (Put 0 0 5) ++ (Deliver 1 0 ∷ Put 0 0 5 ∷ []))
+    (fives ++ (refused 8 ∷ done 0 0 1 5 ∷ done 0 0 17 5 ∷ []))
+    (λ S T. S .updates 0 0 .clock ∷ T .updates 0 0 .clock ∷ []) (1 ∷ 17 ∷ [])
+    ∷ case-of 9 (opened 2 2) (Get 0 1 ∷ []) (done 1 0 0 0 ∷ []) unchanged (1 ∷ [])
+    ∷ case-of 10 (opened 2 2) (Put 0 0 5 ∷ Get 0 0 ∷ []) (done 0 0 1 5 ∷ done 0 0 1 5 ∷ []) unchanged (1 ∷ [])
+    ∷ case 11 (opened 3 2) (Put 0 0 7 ∷ Deliver 1 0 ∷ Put 1 1 9 ∷ Deliver 2 1 ∷ []) (done 0 0 1 7 ∷ done 0 0 1 7 ∷ done 1 1 1 9 ∷ done 1 1 1 9 ∷ [])
+    ∷ case 12 (opened 3 2) (Put 0 0 7 ∷ Deliver 1 0 ∷ Get 1 0 ∷ Put 1 1 9 ∷ Deliver 2 1 ∷ [])
+    (done 0 0 1 7 ∷ done 0 0 1 7 ∷ done 0 0 1 7 ∷ done 1 1 1 9 ∷ ten 0 1 ∷ [])
+    ∷ case-of 13 (opened 2 2) (Put 0 0 5 ∷ Put 1 0 6 ∷ Deliver 0 1 ∷ Deliver 1 0 ∷ []) (done 0 0 1 5 ∷ done 0 1 1 6 ∷ done 0 1 1 6 ∷ done 0 0 1 5 ∷ [])
+    (λ S T. T .store 0 0 .value ∷ T .store 1 0 .value ∷ []) (6 ∷ 5 ∷ [])
+    ∷ case 15 (opened 1 2) (Drain 0 0 ∷ []) (done 0 0 0 0 ∷ [])
+    ∷ case 15 (opened 2 2) (Drain 0 0 ∷ Drain 0 1 ∷ []) (spent 0 0 ∷ done 0 0 0 1 ∷ [])
+    ∷ case 0 (opened 3 4) (Put 0 1 7 ∷ Deliver 1 0 ∷ Get 1 1 ∷ Put 1 2 9 ∷ Deliver 2 1 ∷ Drain 2 903 ∷ Get 2 1 ∷ [])
+    (done 1 0 1 7 ∷ done 1 0 1 7 ∷ done 1 0 1 7 ∷ done 2 1 1 9 ∷ ten 0 1 ∷ done 0 0 2 6 ∷ done 1 0 1 7 ∷ [])
+    ∷ []
+
+abbrev computed : Case → List Numbers × List ℕ
+computed c = (answered (c .table) (c .calls), sight (c .look) (c .table) (c .calls))
+
+abbrev expected : Case → List Numbers × List ℕ
+expected c = (c .answers, c .seen)
+
+starred : map computed cases ≡ map expected cases
+unfolding rules bytesOf cases
+starred = refl

@@ -1,0 +1,7 @@
+pub mod Sound
+pub mod Steps
+pub mod Refusals
+pub mod Drain
+pub mod Calls
+pub mod Cases
+pub mod Theorems

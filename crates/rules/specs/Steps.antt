@@ -1,0 +1,66 @@
+-- What an accepted open, put, get and delivery do to the table, and what they answer. Assumes nothing.
+use Prim.Native.Nat.{ℕ, suc}
+use lib.Dec.{eqb}
+use Rattle.clock.specs.Map.{if_then_else_, _⟨_≔_⟩, _⟨_⟩⟨_≔_⟩}
+use Rattle.clock.specs.Vector.{zeros, join, note}
+use Rattle.layout.specs.State.{State, Update, allZero, withCounts, withApplied, withDepends, withStore, withUpdates}
+use Rattle.rules.specs.Sound.{place}
+
+-- an answer is five numbers
+pub record Numbers : Type 0 where
+  pub code : ℕ
+  pub key : ℕ
+  pub site : ℕ
+  pub clock : ℕ
+  pub value : ℕ
+
+-- in every refused answer the other numbers are 0
+abbrev pub refused : ℕ → Numbers
+refused c = record { code = c; key = 0; site = 0; clock = 0; value = 0 }
+
+abbrev pub done : (key site clock value : ℕ) → Numbers
+done x s c v = record { code = 0; key = x; site = s; clock = c; value = v }
+
+-- what a call answers, and the table it leaves
+pub record Outcome : Type 0 where
+  pub answer : Numbers
+  pub after : State
+
+-- all bytes zero, then the two counts
+unfoldable pub opened : (n k : ℕ) → State
+opened n k = withCounts allZero n k
+
+-- the clock of the next put of o that s is to apply: for s = o, of its next own put
+abbrev pub next : State → (s o : ℕ) → ℕ
+next S s o = suc (S .applied s o)
+
+unfoldable pub put : State → (s x v : ℕ) → Outcome
+put S s x v =
+    let c = next S s s in
+    let U = withUpdates S (S .updates ⟨ s ⟩⟨ place c ≔ record { value = v; key = x; zero = 0; clock = c; depends = S .depends s } ⟩) in
+    let E = withStore U (S .store ⟨ s ⟩⟨ x ≔ record { value = v; origin = s; zero = 0; clock = c; depends = zeros } ⟩) in
+    let A = withApplied E (S .applied ⟨ s ⟩⟨ s ≔ c ⟩) in
+    record { answer = done x s c v; after = withDepends A (S .depends ⟨ s ≔ note (S .depends s) s c ⟩) }
+
+-- the dependency row of s with the entry's vector and then its pair, if its clock is not 0
+unfoldable pub learn : State → (s x : ℕ) → State
+learn S s x =
+    let e = S .store s x in
+    if eqb (e .clock) 0 then S
+    else withDepends S (S .depends ⟨ s ≔ note (join (S .depends s) (e .depends)) (e .origin) (e .clock) ⟩)
+
+unfoldable pub get : State → (s x : ℕ) → Outcome
+get S s x =
+    let e = S .store s x in
+    record { answer = done x (e .origin) (e .clock) (e .value); after = learn S s x }
+
+-- the next update of o for s
+abbrev pub waiting : State → (s o : ℕ) → Update
+waiting S s o = S .updates o (place (next S s o))
+
+unfoldable pub deliver : State → (s o : ℕ) → Outcome
+deliver S s o =
+    let c = next S s o in
+    let u = waiting S s o in
+    let E = withStore S (S .store ⟨ s ⟩⟨ u .key ≔ record { value = u .value; origin = o; zero = 0; clock = c; depends = u .depends } ⟩) in
+    record { answer = done (u .key) o c (u .value); after = withApplied E (S .applied ⟨ s ⟩⟨ o ≔ c ⟩) }

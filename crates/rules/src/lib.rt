@@ -1,0 +1,1 @@
+// The rules: definitions and theorems, no code.
