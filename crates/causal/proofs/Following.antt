@@ -1,0 +1,208 @@
+-- The calls of a sound table are figure 7's steps: demand 2 on plain numbers. Assumes nothing.
+use mathlib.Core.Path.{_≡_, refl, sym, ap, subst, _∙_}
+use mathlib.Core.List.{_∷_}
+use mathlib.Core.Logic.{⊎-elim, _↔_, _≢_, Iff·trans, Iff·symm}
+use Prim.Native.Nat.{ℕ, _+_, _≤_, _<_}
+use native.Mathlib.Omega.{arith}
+use borrow.Author.Tests.{ne-eqb, ltb-true, ltb-false}
+use Rattle.clock.specs.Map.{any}
+use Rattle.clock.proofs.Maps.{both, eq?, true-or-false}
+use Rattle.clock.proofs.Says.{Denies, denies-lt, denies-any}
+use Rattle.layout.specs.State.{State}
+use Rattle.rules.specs.Sound.{sound, Sound}
+use Rattle.rules.specs.Steps as r
+use Rattle.rules.specs.Steps.{Numbers, Outcome}
+use Rattle.rules.specs.Calls.{Call, Put, Get, Deliver, refusals, step, run}
+use Rattle.rules.specs.Refusals.{first, missing, deliver-refusals}
+use Rattle.rules.proofs.Ready.{DeliverReady, put-ready, get-ready, deliver-ready, deliver-nine, deliver-ten}
+use Rattle.rules.specs.Theorems.{LowestMissing}
+use Rattle.rules.proofs.Given.{run-cases, run-refused}
+use Rattle.rules.proofs.Codes.{code-first, missing-named}
+use Rattle.rules.proofs.Keeps.{put-sound, get-sound, deliver-sound}
+use Rattle.causal.specs.World as w
+use Rattle.causal.specs.World.{World, Answer, Behind, CausesApplied, put, get, update, PUT, GET, UPDATE, withPut, withGet, withUpdate}
+use Rattle.causal.specs.Refines.{Tops, Abstracts, answer, numbers, Steps, Refines, Tells, Follows}
+use Rattle.causal.proofs.Sites.{next}
+use Rattle.causal.proofs.Vectors.{tops-worst}
+use Rattle.causal.proofs.Related.{put-next, put-related, get-related, deliver-numbers, deliver-related, same-due, same-check, same-waiting}
+
+-- a call with its step, and what is ready exactly when the step is taken
+module _ (S : State) (W : World) (c : Call) {R P : Type 0} (ready : (first (refusals S c) ≡ 0) ↔ R) (same : R ↔ P)
+    (zero : step S c .answer .code ≡ 0) (steps : R → Steps S W c (step S c)) where
+  refines : Refines S W c P (run S c)
+  refines =
+      ⊎-elim
+      (λ p. subst (Refines S W c P) (sym (p .1))
+      (let k = ready .0 (p .0) in record { exactly = ((λ z. same .0 k), λ z. zero); accepted = λ z. steps k; refused = λ z. absurd (z zero) }))
+      (λ p.
+      let e = run-refused S c (p .0) in
+      record {
+        exactly = ((λ z. absurd (p .0 (sym e ∙ z))), λ k. absurd (p .0 (ready .1 (same .1 k))));
+        accepted = λ z. absurd (p .0 (sym e ∙ z));
+        refused = λ z. ap (λ (o : Outcome). o .after) (p .1);
+      })
+      (run-cases S c)
+
+module _ (S : State) (D : Sound S) (W : World) (A : Abstracts S W) where
+  pub puts : (s x v : ℕ) → Refines S W (Put s x v) ((s < S .n) × (x < S .k) × (S .applied s s ≢ 65535) × ((t : ℕ) → t < S .n → S .applied s s < S .applied t s + 16)) (run S (Put s x v))
+  unfolding refusals step r.put
+  puts s x v =
+      refines S W (Put s x v) (put-ready S s x) (
+        (λ R. (R .site, R .key, R .clock, R .room)),
+        λ p. record { sound = D; site = p .0; key = p .1; clock = p .2; room = p .3 },
+      ) refl
+      (λ R.
+      record {
+        event = put s x v (next W s);
+        world = withPut W s x v;
+        step = PUT s x v (R .site) (R .key);
+        call = λ h. ap (λ (c : ℕ). put s x v c ∷ h) (sym (put-next S s x v R W A));
+        answer = cc (put-next S s x v R W A);
+        abstracts = put-related S s x v R W A;
+        sound = put-sound S s x v R;
+      })
+
+  got : (s x : ℕ) (a : Answer) → s < S .n → x < S .k → let e = S .store s x in a ≡ answer (e .value) (e .origin) (e .clock)
+      → r.get S s x .answer ≡ numbers (get s x a)
+  unfolding r.get
+  got s x a p q k =
+      rw k
+      (⊎-elim
+      (λ b. rw (b .value, b .origin, b .clock))
+      (λ b. rw (ne-eqb (S .store s x .clock) 0 (λ z. omega (arith, b .some))))
+      (D .entries s x p q))
+
+  pub gets : (s x : ℕ) → Refines S W (Get s x) ((s < S .n) × (x < S .k)) (run S (Get s x))
+  unfolding refusals step r.get
+  gets s x =
+      refines S W (Get s x) (get-ready S s x) ((λ R. (R .site, R .key)), λ p. record { sound = D; site = p .0; key = p .1 }) refl
+      (λ R.
+      record {
+        event = get s x (W .store s x .answer);
+        world = withGet W s x;
+        step = GET s x (R .site) (R .key);
+        call = λ h. ap (λ (a : Answer). get s x a ∷ h) (sym (A .answers s x (R .site) (R .key)));
+        answer = got s x _ (R .site) (R .key) (A .answers s x (R .site) (R .key));
+        abstracts = get-related S s x R W A;
+        sound = get-sound S s x D;
+      })
+
+  behind : (s o : ℕ) → s < S .n → o < S .n → (S .applied s o ≢ S .applied o o) ↔ (S .applied s o < S .applied o o)
+  behind s o p q = ((λ h. omega (arith, D .most s o p q)), λ h. omega arith)
+
+  pub enables : (s o : ℕ) → DeliverReady S s o → (s < S .n) × (o < S .n) × (s ≢ o) × Behind W s o × CausesApplied W s o
+  enables s o R =
+      let lt = behind s o (R .site) (R .origin) .0 (R .behind) in (
+        R .site,
+        R .origin,
+        R .others,
+        same-due S D s o (R .site) (R .origin) W A .1 lt,
+        same-check S D s o (R .site) (R .origin) W A lt .1 (R .causes),
+      )
+
+  readies : (s o : ℕ) → (s < S .n) × (o < S .n) × (s ≢ o) × Behind W s o × CausesApplied W s o → DeliverReady S s o
+  readies s o p =
+      let lt = same-due S D s o (p .0) (p .1) W A .0 (p .3) in
+      record {
+        sound = D;
+        site = p .0;
+        origin = p .1;
+        others = p .2;
+        behind = behind s o (p .0) (p .1) .1 lt;
+        causes = same-check S D s o (p .0) (p .1) W A lt .0 (p .4);
+      }
+
+  pub delivers : (s o : ℕ) → Refines S W (Deliver s o) ((s < S .n) × (o < S .n) × (s ≢ o) × Behind W s o × CausesApplied W s o) (run S (Deliver s o))
+  unfolding refusals step r.deliver
+  delivers s o =
+      refines S W (Deliver s o) (deliver-ready S s o) (enables s o, readies s o) refl
+      (λ R.
+      record {
+        event = update s o (w.due W s o) (w.waiting W s o .key) (w.waiting W s o .value);
+        world = withUpdate W s o;
+        step = UPDATE s o (R .site) (R .origin) (R .others) (enables s o R .3) (enables s o R .4);
+        call = λ h. ap (λ (a : Numbers). update s o (a .clock) (a .key) (a .value) ∷ h) (deliver-numbers S s o R W A);
+        answer = deliver-numbers S s o R W A;
+        abstracts = deliver-related S s o R W A;
+        sound = deliver-sound S s o R;
+      })
+
+-- ## Which premise of UPDATE fails
+
+module _ (S : State) (D : Sound S) (W : World) (A : Abstracts S W) (s o : ℕ) where
+  abbrev a : Numbers
+  a = run S (Deliver s o) .answer
+
+  told : (e : ℕ) → e ≢ 0 → e ≢ 11 → (a .code ≡ e) ↔ (first (deliver-refusals S s o) ≡ e)
+  unfolding refusals
+  told = code-first S (Deliver s o)
+
+  nine : (a .code ≡ 9) ↔ ((s < S .n) × (o < S .n) × (s ≢ o) × (Behind W s o → ⊥))
+  nine =
+      Iff·trans (told 9 (omega arith) (omega arith)) (Iff·trans (deliver-nine S s o) (
+        (λ (_, ((p, q), (k, e))). (p, q, k, λ d. omega (arith, same-due S D s o p q W A .0 d))),
+        λ (p, q, k, f). (D, ((p, q), (k, ⊎-elim (λ e. e) (λ e. absurd (f (same-due S D s o p q W A .1 (behind S D W A s o p q .0 e)))) (eq? (S .applied s o) (S .applied o o))))),
+      ))
+
+  -- the table finds a cause missing exactly when UPDATE's check fails
+  module _ (p : s < S .n) (q : o < S .n) (d : Behind W s o) where
+    abbrev lt : S .applied s o < S .applied o o
+    lt = same-due S D s o p q W A .0 d
+
+    found : Denies (any 8 (missing S s o)) (CausesApplied W s o)
+    found =
+        Iff·trans (denies-any (missing S s o) (λ j. r.waiting S s o .depends j ≤ S .applied s j) 8 (λ j. denies-lt _ _)) (Iff·symm (same-check S D s o p q W A lt))
+
+    tops : Tops (r.waiting S s o .depends) (w.waiting W s o .depends)
+    tops = same-waiting S D s o p q W A lt .2
+
+  ten : (a .code ≡ 10) ↔ ((s < S .n) × (o < S .n) × (s ≢ o) × Behind W s o × (CausesApplied W s o → ⊥))
+  ten =
+      Iff·trans (told 10 (omega arith) (omega arith)) (Iff·trans (deliver-ten S s o) (
+        (λ (_, ((p, q), (k, (b, m)))).
+            let d = same-due S D s o p q W A .1 (behind S D W A s o p q .0 b) in
+            (p, q, k, d, λ f. both m (found p q d .1 f))),
+        λ (p, q, k, d, f). (
+          D,
+          (
+            (p, q),
+            (
+              k,
+              (
+                behind S D W A s o p q .1 (lt p q d),
+                ⊎-elim (λ e. e) (λ e. absurd (f (found p q d .0 e))) (true-or-false (any 8 (missing S s o))),
+              ),
+            ),
+          ),
+        ),
+      ))
+
+  module _ (z : a .code ≡ 10) where
+    abbrev hs : s < S .n
+    hs = ten .0 z .0
+
+    abbrev T : Tops (r.waiting S s o .depends) (w.waiting W s o .depends)
+    T = tops hs (ten .0 z .1) (ten .0 z .3)
+
+    abbrev M : LowestMissing S s o a
+    M = missing-named S s o z
+
+    fails : w.waiting W s o .depends (a .site) (a .clock) × (W .applied s (a .site) < a .clock)
+    fails =
+        let l = ltb-true _ _ (M .fails) in (
+          subst (λ (c : ℕ). w.waiting W s o .depends (a .site) c) (sym (M .clock)) (tops-worst _ (S .applied s) _ T (a .site) (M .column) l),
+          omega (arith, A .applied s (a .site) hs (M .column), M .clock),
+        )
+
+    lowest : (o′ c′ : ℕ) → o′ < a .site → w.waiting W s o .depends o′ c′ → c′ ≤ W .applied s o′
+    lowest o′ c′ h m =
+        omega (arith, ltb-false (S .applied s o′) (r.waiting S s o .depends o′) (M .lowest o′ h), T .above o′ c′ m, A .applied s o′ hs (T .eight o′ c′ m))
+
+    greatest : (c′ : ℕ) → w.waiting W s o .depends (a .site) c′ → c′ ≤ a .clock
+    greatest c′ m = omega (arith, T .above (a .site) c′ m, M .clock)
+
+  pub tells : Tells S W s o a
+  tells = record { nine = nine; ten = ten; fails = fails; lowest = lowest; greatest = greatest }
+
+pub follows : (S : State) → Sound S → (W : World) → Abstracts S W → Follows S W (run S)
+follows S D W A = record { puts = λ s x v h. puts S D W A s x v; gets = gets S D W A; delivers = delivers S D W A; tells = tells S D W A }

@@ -1,0 +1,11 @@
+pub mod Sites
+pub mod Invariant
+pub mod Puts
+pub mod Orders
+pub mod Progress
+pub mod Vectors
+pub mod Related
+pub mod Meaning
+pub mod Following
+pub mod Tracing
+pub mod Anomaly

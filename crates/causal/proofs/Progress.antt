@@ -1,0 +1,91 @@
+-- While a site lacks a put, some update is enabled there. Assumes nothing.
+use mathlib.Core.Path.{_≡_, refl, ap, subst}
+use mathlib.Core.List.{[], _∷_}
+use mathlib.Core.Logic.{_⊎_, inl, inr, ⊎-elim, _≢_}
+use Prim.Native.Nat.{ℕ, _≤_, _<_}
+use native.Mathlib.Omega.{arith}
+use native.Mathlib.Decide.{decLe}
+use Rattle.clock.proofs.Maps.{eq?}
+use Rattle.causal.specs.World.{Behind, CausesApplied, World, nth, due, Event, put, get, update, Run}
+use Rattle.clock.specs.Lists.{_∈_}
+use Rattle.causal.specs.History.{CausalRun, History, Lacks}
+use Rattle.causal.proofs.Sites.{clash, Issued}
+use Rattle.causal.proofs.Invariant.{Past, Inv, issued, put-inj}
+use Rattle.causal.proofs.Puts.{inv}
+use Rattle.causal.proofs.Orders.{safety, came, put-site-below}
+
+-- the site has applied each put of `h`
+abbrev All : World → ℕ → History → Type 0
+All W s h = (o x v c : ℕ) → put o x v c ∈ h → c ≤ W .applied s o
+
+-- it lacks one whose dependencies it has applied
+record Some (W : World) (s : ℕ) (h : History) : Type 0 where
+  pub o : ℕ
+  pub x : ℕ
+  pub v : ℕ
+  pub c : ℕ
+  pub put-there : put o x v c ∈ h
+  pub lacked : W .applied s o < c
+  pub ready : (o′ c′ : ℕ) → nth (W .updates o) c .depends o′ c′ → c′ ≤ W .applied s o′
+
+some-more : {W : World} {s : ℕ} {h : History} (e : Event) → Some W s h → Some W s (e ∷ h)
+some-more e k = record { o = k .o; x = k .x; v = k .v; c = k .c; put-there = inr (k .put-there); lacked = k .lacked; ready = k .ready }
+
+first : (W : World) (s : ℕ) (h : History) → Past (W .updates) h → All W s h ⊎ Some W s h
+unfolding Past
+first W s [] p = inl (λ o x v c q. absurd q)
+first W s (put t y w b ∷ h) p = go (first W s h (p .1)) (decLe b (W .applied s t))
+  where
+    all : All W s h → b ≤ W .applied s t → All W s (put t y w b ∷ h)
+    all f d o x v c (inl q) = let k = put-inj o x v c t y w b q in omega (arith, k .1, ap (W .applied s) (k .0))
+    all f d o x v c (inr q) = f o x v c q
+
+    go : All W s h ⊎ Some W s h → Dec (b ≤ W .applied s t) → All W s (put t y w b ∷ h) ⊎ Some W s (put t y w b ∷ h)
+    go (inr k) d = inr (some-more (put t y w b) k)
+    go (inl f) (yes d) = inl (all f d)
+    go (inl f) (no d) =
+        inr (record { o = t; x = y; v = w; c = b; put-there = inl refl; lacked = omega arith; ready = λ o′ c′ k. let r = p .0 o′ c′ k in f o′ (r .0) (r .1) c′ (r .2) })
+first W s (get t y a ∷ h) p =
+    ⊎-elim
+    (λ (f : All W s h). inl (λ o x v c. ⊎-elim (λ q. clash (cc)) (f o x v c)))
+    (λ k. inr (some-more (get t y a) k))
+    (first W s h p)
+first W s (update t o b y w ∷ h) p =
+    ⊎-elim
+    (λ (f : All W s h). inl (λ o x v c. ⊎-elim (λ q. clash (cc)) (f o x v c)))
+    (λ k. inr (some-more (update t o b y w) k))
+    (first W s h p)
+
+-- the put found is the next one of its origin, since it depends on all those before it there
+some-next : (h : History) (W : World) (s : ℕ) → Inv h W → (k : Some W s h) → Issued (W .updates) (k .o) (k .c) → k .c ≡ due W s (k .o)
+some-next h W s I k i =
+    ⊎-elim
+    (λ (p : k .c ≡ due W s (k .o)). p)
+    (λ (p : k .c ≢ due W s (k .o)).
+    let l : due W s (k .o) < k .c = omega (arith, k .lacked) in
+    absurd (omega (arith, k .ready (k .o) (due W s (k .o)) (I .chain (k .o) (k .c) (due W s (k .o)) i (omega arith) l))))
+    (eq? (k .c) (due W s (k .o)))
+
+some-enabled : (h : History) (W : World) (s : ℕ) → Inv h W → (k : Some W s h) → (s ≢ k .o) × Behind W s (k .o) × CausesApplied W s (k .o)
+some-enabled h W s I k =
+    let i = issued h W I (k .o) (k .x) (k .v) (k .c) (k .put-there) in
+    let e = some-next h W s I k i in (
+      (λ q. omega (arith, k .lacked, i .1, I .own-count (k .o), ap (λ (z : ℕ). W .applied z (k .o)) q)),
+      omega (arith, k .lacked, i .1),
+      subst (λ (z : ℕ). (o′ c′ : ℕ) → nth (W .updates (k .o)) z .depends o′ c′ → c′ ≤ W .applied s o′) e (k .ready),
+    )
+
+not-applied : (h : History) (W : World) (s o c : ℕ) → Inv h W → 1 ≤ c → Lacks h s o c → c ≤ W .applied s o → ⊥
+not-applied h W s o c I p k q = ⊎-elim (λ z. k .0 (z .0)) (k .1 _ _) (came s h o c _ _ (I .site s .shown o c p q))
+
+pub progress : {n k : ℕ} (h : History) (W : World) → Run n k h W → (s o x v c : ℕ) → put o x v c ∈ h → Lacks h s o c → (o′ : ℕ) × (o′ < n) × (s ≢ o′) × Behind W s o′ × CausesApplied W s o′
+progress h W r s o x v c p q =
+    let I = inv h W r in
+    ⊎-elim
+    (λ (f : All W s h). absurd (not-applied h W s o c I (issued h W I o x v c p .0) q (f o x v c p)))
+    (λ (k : Some W s h). let e = some-enabled h W s I k in (k .o, put-site-below h W r (k .o) (k .x) (k .v) (k .c) (k .put-there), e .0, e .1, e .2))
+    (first W s h (I .past))
+
+-- every run of figure 7 is causal and live
+pub run-causal : {n k : ℕ} {h : History} {W : World} → Run n k h W → CausalRun n h W
+run-causal {h = h} {W = W} r = record { orders = safety h W r; live = progress h W r }

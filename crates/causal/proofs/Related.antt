@@ -1,0 +1,219 @@
+-- Put, get and deliver leave a table that figure 7's next world abstracts. Assumes nothing.
+use mathlib.Core.Path.{_≡_, refl, sym, ap, subst, _∙_}
+use mathlib.Core.Bool.{Bool, true, false}
+use mathlib.Core.List.{List, [], _∷_, _++_}
+use mathlib.Core.Logic.{_⊎_, inl, inr, ⊎-elim, _↔_, _≢_}
+use Prim.Native.Nat.{ℕ, suc, _≤_, _<_}
+use native.Mathlib.Omega.{arith}
+use lib.Dec.{eqb, eqb·suc-zero}
+use lib.ListN.{length, length-append}
+use borrow.Author.Tests.{eqb-true, eqb-false}
+use Rattle.clock.specs.Map.{if_then_else_, _⟨_≔_⟩, _⟨_⟩⟨_≔_⟩}
+use Rattle.clock.specs.Vector.{Vector, join, note}
+use Rattle.clock.proofs.Maps.{choice, at-is, at-is₂, related, related₂}
+use Rattle.layout.specs.State.{State, Entry, Update, withDepends}
+use Rattle.rules.specs.Sound.{place, Retained, Sound}
+use Rattle.rules.specs.Steps as r
+use Rattle.rules.specs.Steps.{learn}
+use Rattle.rules.proofs.Ready.{PutReady, GetReady, DeliverReady}
+use Rattle.rules.proofs.Keeps.{deliver-own, deliver-behind, deliver-retained, get-origin, put-retained, put-stands}
+use Rattle.causal.specs.World as w
+use Rattle.causal.specs.World.{Set, ∅, just, _∪_, World, Answer, never, wrote, nth, learned, withPut, withGet, withUpdate, Behind, CausesApplied}
+use Rattle.causal.specs.Refines.{Tops, answer, Abstracts}
+use Rattle.causal.proofs.Sites.{next, newest, extends}
+use Rattle.causal.proofs.Vectors.{tops-none, tops-same, tops-join, tops-note, same-answers}
+
+abbrev SameEntry : Entry → w.Entry → Type 0
+SameEntry e m = (m .answer ≡ answer (e .value) (e .origin) (e .clock)) × Tops (e .depends) (m .depends)
+
+abbrev SameUpdate : Update → w.Update → Type 0
+SameUpdate e u = (u .key ≡ e .key) × (u .value ≡ e .value) × Tops (e .depends) (u .depends)
+
+-- the entry of a put that is made or applied has a clock above 0
+pub written : (v o c c′ : ℕ) → c′ ≡ suc c → wrote v o c′ ≡ answer v o (suc c)
+written v o c c′ e =
+    ap (λ (z : ℕ). wrote v o z) e ∙ sym (ap (λ (t : Bool). if t then never else wrote v o (suc c)) (eqb·suc-zero c))
+
+-- ## Deliver
+
+-- the update that is due
+module _ (S : State) (D : Sound S) (s o : ℕ) (hs : s < S .n) (ho : o < S .n) (W : World) (A : Abstracts S W) where
+  pub same-count : (W .applied s o ≡ S .applied s o) × (length (W .updates o) ≡ S .applied o o)
+  same-count = (A .applied s o hs (omega (arith, D .sites .1)), A .count o ho)
+
+  pub same-due : Behind W s o ↔ (S .applied s o < S .applied o o)
+  same-due = let e = same-count in ((λ h. omega arith), λ h. omega arith)
+
+  module _ (lt : S .applied s o < S .applied o o) where
+    pub same-waiting : SameUpdate (r.waiting S s o) (w.waiting W s o)
+    same-waiting =
+        subst (λ (z : ℕ). SameUpdate (r.waiting S s o) (nth (W .updates o) (suc z))) (sym (same-count .0))
+        (A .updates o (suc (S .applied s o)) ho (record { made = lt; by = s; site = hs; lacks = omega arith }))
+
+    -- UPDATE's check over the set is the table's over the vector
+    pub same-check : CausesApplied W s o ↔ ((j : ℕ) → j < 8 → r.waiting S s o .depends j ≤ S .applied s j)
+    same-check =
+        let T = same-waiting .2 in
+        let C = same-answers _ _ T .check (S .applied s) in (
+          (λ f. C .0 (λ o′ c′ m. omega (arith, f o′ c′ m, A .applied s o′ hs (T .eight o′ c′ m)))),
+          λ f o′ c′ m. omega (arith, C .1 f o′ c′ m, A .applied s o′ hs (T .eight o′ c′ m)),
+        )
+
+module _ (S : State) (s o : ℕ) (R : DeliverReady S s o) (W : World) (A : Abstracts S W) where
+  abbrev u : Update
+  u = r.waiting S s o
+
+  abbrev u′ : w.Update
+  u′ = w.waiting W s o
+
+  waits : SameUpdate u u′
+  waits = same-waiting S (R .sound) s o (R .site) (R .origin) W A (deliver-behind S s o R)
+
+  pub deliver-next : w.due W s o ≡ r.next S s o
+  deliver-next = ap suc (same-count S (R .sound) s o (R .site) (R .origin) W A .0)
+
+  pub deliver-numbers : r.deliver S s o .answer ≡ r.done (u′ .key) o (w.due W s o) (u′ .value)
+  unfolding r.deliver
+  deliver-numbers = cc (waits .0, waits .1, deliver-next)
+
+  deliver-entry : (s′ x : ℕ) → s′ < S .n → x < S .k → SameEntry (r.deliver S s o .after .store s′ x) (withUpdate W s o .store s′ x)
+  unfolding r.deliver
+  deliver-entry s′ x p q =
+      subst (λ (z : ℕ). SameEntry (r.deliver S s o .after .store s′ x)
+      ((W .store ⟨ s ⟩⟨ z ≔ record { answer = wrote (u′ .value) o (w.due W s o); depends = u′ .depends } ⟩) s′ x)) (sym (waits .0))
+      (related₂ SameEntry (S .store) (W .store) s (u .key) _ _ s′ x
+      (ap (λ (z : ℕ). wrote z o (w.due W s o)) (waits .1) ∙ written (u .value) o (S .applied s o) (w.due W s o) deliver-next, waits .2)
+      (A .answers s′ x p q, A .store s′ x p q))
+
+  pub deliver-related : Abstracts (r.deliver S s o .after) (withUpdate W s o)
+  unfolding r.deliver
+  deliver-related =
+      record {
+        applied = λ s′ o′ p q. related₂ (λ a b. b ≡ a) (S .applied) (W .applied) s o _ _ s′ o′ deliver-next (A .applied s′ o′ p q);
+        depends = A .depends;
+        answers = λ s′ x p q. deliver-entry s′ x p q .0;
+        store = λ s′ x p q. deliver-entry s′ x p q .1;
+        count = λ o′ p. A .count o′ p ∙ sym (deliver-own S s o R o′);
+        updates = λ o′ c p k. A .updates o′ c p (deliver-retained S s o R o′ c k);
+      }
+
+-- ## Get
+
+-- dependency rows changed, on both sides
+depends-related : (S : State) (W : World) (d : ℕ → Vector) (d′ : ℕ → Set) → Abstracts S W → ((s : ℕ) → s < S .n → Tops (d s) (d′ s))
+    → Abstracts (withDepends S d) (record { depends = d′; updates = W .updates; applied = W .applied; store = W .store })
+depends-related S W d d′ A f =
+    record {
+      applied = A .applied;
+      depends = f;
+      answers = A .answers;
+      store = A .store;
+      count = A .count;
+      updates = λ o c p k. A .updates o c p (record { made = k .made; by = k .by; site = k .site; lacks = k .lacks });
+    }
+
+module _ (S : State) (s x : ℕ) (R : GetReady S s x) (W : World) (A : Abstracts S W) where
+  abbrev e : Entry
+  e = S .store s x
+
+  get-learned : e .clock ≢ 0 → Tops (note (join (S .depends s) (e .depends)) (e .origin) (e .clock))
+      (W .depends s ∪ learned (wrote (e .value) (e .origin) (e .clock)) (W .store s x .depends))
+  get-learned h =
+      tops-same _ ((W .depends s ∪ W .store s x .depends) ∪ just (e .origin) (e .clock)) _
+      (λ o c. ⊎-elim (⊎-elim inl (λ q. inr (inr q))) (λ q. inr (inl q)))
+      (λ o c. ⊎-elim (λ q. inl (inl q)) (⊎-elim inr (λ q. inl (inr q))))
+      (tops-note _ _ (e .origin) (e .clock) (omega (arith, get-origin S s x R h, R .sound .sites .1))
+      (tops-join _ _ _ _ (A .depends s (R .site)) (A .store s x (R .site) (R .key))))
+
+  pub get-related : Abstracts (r.get S s x .after) (withGet W s x)
+  unfolding r.get learn
+  get-related = go (eqb (e .clock) 0) refl (W .store s x .answer) (A .answers s x (R .site) (R .key))
+    where
+      nothing : (s′ : ℕ) → s′ < S .n → Tops (S .depends s′) ((W .depends ⟨ s ≔ W .depends s ∪ ∅ ⟩) s′)
+      nothing s′ p =
+          choice (eqb s s′) (λ d. Tops (S .depends s′) d)
+          (λ t. subst (λ (z : ℕ). Tops (S .depends z) (W .depends s ∪ ∅)) (eqb-true s s′ t)
+          (tops-same _ (W .depends s) _ (λ o c h. inl h) (λ o c. ⊎-elim (λ h. h) absurd) (A .depends s (R .site))))
+          (λ t. A .depends s′ p)
+
+      go : (t : Bool) → eqb (e .clock) 0 ≡ t → (a : Answer) → a ≡ (if t then never else wrote (e .value) (e .origin) (e .clock))
+          → Abstracts
+          (if t then S else withDepends S (S .depends ⟨ s ≔ note (join (S .depends s) (e .depends)) (e .origin) (e .clock) ⟩))
+          (record {
+            depends = W .depends ⟨ s ≔ W .depends s ∪ learned a (W .store s x .depends) ⟩;
+            updates = W .updates;
+            applied = W .applied;
+            store = W .store;
+          })
+      go true q a k = rw k (depends-related S W (S .depends) _ A nothing)
+      go false q a k =
+          rw k
+          (depends-related S W _ _ A (λ s′ p. related Tops (S .depends) (W .depends) s _ _ s′ (get-learned (eqb-false _ _ q)) (A .depends s′ p)))
+
+-- ## Put
+
+module _ (S : State) (s x v : ℕ) (R : PutReady S s x) (W : World) (A : Abstracts S W) where
+  abbrev T : State
+  T = r.put S s x v .after
+
+  abbrev W′ : World
+  W′ = withPut W s x v
+
+  pub put-next : next W s ≡ r.next S s s
+  put-next = ap suc (A .count s (R .site))
+
+  abbrev new : w.Update
+  new = record { key = x; value = v; depends = W .depends s }
+
+  put-count : (o : ℕ) → o < S .n → length (W′ .updates o) ≡ T .applied o o
+  unfolding r.put
+  put-count o p = go (at-is (W .updates) s (W .updates s ++ (new ∷ [])) o) (at-is₂ (S .applied) s s (r.next S s s) o o)
+    where
+      go : ((s ≡ o) × (W′ .updates o ≡ W .updates s ++ (new ∷ []))) ⊎ ((s ≢ o) × (W′ .updates o ≡ W .updates o))
+          → ((s ≡ o) × (s ≡ o) × (T .applied o o ≡ r.next S s s)) ⊎ ((s ≡ o → s ≡ o → ⊥) × (T .applied o o ≡ S .applied o o))
+          → length (W′ .updates o) ≡ T .applied o o
+      go (inl (a, b)) (inl (c, d, e)) = omega (arith, ap length b, length-append (W .updates s) (new ∷ []), put-next)
+      go (inl (a, b)) (inr (c, d)) = absurd (c a a)
+      go (inr (a, b)) (inl (c, d, e)) = absurd (a c)
+      go (inr (a, b)) (inr (c, d)) = omega (arith, ap length b, A .count o p)
+
+  put-newest : (o c : ℕ) → (s ≡ o) × (c ≡ r.next S s s) → nth (W′ .updates o) c ≡ new
+  put-newest o c e =
+      ⊎-elim
+      (λ k. ap (λ (z : List w.Update). nth z c) (k .1) ∙ ap (λ (z : ℕ). nth (W .updates s ++ (new ∷ [])) z) (e .1 ∙ sym put-next) ∙ newest (W .updates s) new)
+      (λ k. absurd (k .0 (e .0)))
+      (at-is (W .updates) s (W .updates s ++ (new ∷ [])) o)
+
+  put-update : (o c : ℕ) → o < S .n → Retained T o c → SameUpdate (T .updates o (place c)) (nth (W′ .updates o) c)
+  put-update o c p k =
+      ⊎-elim
+      (λ e. rw (put-stands S s x v R o c e, put-newest o c e) (refl, refl, A .depends s (R .site)))
+      (λ e.
+      let q = extends (W .updates) s new o c (omega (arith, e .0 .lacks), omega (arith, e .0 .made, A .count o p)) in
+      rw (e .1, q .1) (A .updates o c p (e .0)))
+      (put-retained S s x v R o c k)
+
+  put-entry : (s′ y : ℕ) → s′ < S .n → y < S .k → SameEntry (T .store s′ y) (W′ .store s′ y)
+  unfolding r.put
+  put-entry s′ y p q =
+      related₂ SameEntry (S .store) (W .store) s x _ _ s′ y
+      (written v s (S .applied s s) (next W s) put-next, tops-none)
+      (A .answers s′ y p q, A .store s′ y p q)
+
+  pub put-related : Abstracts T W′
+  unfolding r.put
+  put-related =
+      record {
+        applied = λ s′ o p q.
+            related₂ (λ a b. b ≡ a) (S .applied) (W .applied) s s _ _ s′ o
+            (ap suc (A .applied s s (R .site) (omega (arith, R .site, R .sound .sites .1)))) (A .applied s′ o p q);
+        depends = λ s′ p.
+            related Tops (S .depends) (W .depends) s _ _ s′
+            (subst (λ (z : ℕ). Tops (note (S .depends s) s (r.next S s s)) (W .depends s ∪ just s z)) (sym put-next)
+            (tops-note _ _ s (r.next S s s) (omega (arith, R .site, R .sound .sites .1)) (A .depends s (R .site))))
+            (A .depends s′ p);
+        answers = λ s′ y p q. put-entry s′ y p q .0;
+        store = λ s′ y p q. put-entry s′ y p q .1;
+        count = put-count;
+        updates = put-update;
+      }

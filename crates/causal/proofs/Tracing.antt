@@ -1,0 +1,175 @@
+-- Every table that calls lead to from an opening is the world of a run whose labels are its history: demand 3 on plain numbers. Assumes nothing.
+use mathlib.Core.Path.{_≡_, sym, ap, subst, _∙_}
+use mathlib.Core.Bool.{Bool, true, false, _||_}
+use mathlib.Core.List.{List, [], _∷_, _++_, map}
+use mathlib.Core.Logic.{⊎-elim, _≢_}
+use Prim.Native.Nat.{ℕ, _<_}
+use native.Mathlib.Omega.{arith}
+use lib.Dec.{eqb}
+use borrow.Author.Tests.{eq-eqb, ne-eqb}
+use Rattle.clock.specs.Map.{if_then_else_}
+use Rattle.clock.specs.Lists.{_∈_}
+use Rattle.clock.proofs.Maps.{eq?}
+use Rattle.layout.specs.State.{State}
+use Rattle.rules.specs.Sound.{Sound}
+use Rattle.rules.specs.Steps as r
+use Rattle.rules.specs.Steps.{Numbers, Outcome, opened}
+use Rattle.rules.specs.Drain.{drained, drain}
+use Rattle.rules.specs.Calls.{Call, Open, Put, Get, Deliver, Drain, refusals, step, run}
+use Rattle.rules.specs.Refusals.{first}
+use Rattle.rules.specs.Theorems.{Delivers, start, one-more}
+use Rattle.rules.proofs.Ready.{OpenReady, open-ready, drain-ready}
+use Rattle.rules.proofs.Given.{run-cases, run-accepted, run-refused, first-clear, ascends}
+use Rattle.rules.proofs.Keeps.{open-sound}
+use Rattle.rules.proofs.Draining.{drained-code, drain-delivers}
+use Rattle.rules.proofs.Turns.{drain-ends}
+use Rattle.rules.proofs.Codes.{spent-exactly}
+use Rattle.rules.proofs.After.{counts-kept}
+use Rattle.causal.specs.World.{World, Event, put, update, Run, begin, more}
+use Rattle.causal.specs.History.{History, Lacks}
+use Rattle.causal.specs.Refines.{Abstracts, answer, Refines, after-call, Causal}
+use Rattle.causal.proofs.Meaning.{open-abstracts}
+use Rattle.causal.proofs.Following.{puts, gets, delivers}
+use Rattle.causal.proofs.Orders.{in-right}
+use Rattle.causal.proofs.Progress.{run-causal}
+use Rattle.causal.proofs.Sites.{clash}
+
+pub record Traced (S : State) (h : History) : Type 1 where
+  pub world : World
+  pub leads : Run (S .n) (S .k) h world
+  pub related : Abstracts S world
+  pub sound : Sound S
+
+-- ## Put, get and deliver
+
+-- a call that is figure 7's step, and makes no event where it is refused
+single : {S : State} {h : History} (T : Traced S h) (c : Call) {P : Type 0} → ((n k : ℕ) → c ≢ Open n k)
+    → ((a : Numbers) → a .code ≢ 0 → after-call S c a h ≡ h) → Refines S (T .world) c P (run S c)
+    → Traced (run S c .after) (after-call S c (run S c .answer) h)
+single {S} {h} T c other none R =
+    ⊎-elim
+    (λ z.
+    let Q = R .accepted z in
+    let e = counts-kept S c other in
+    record { world = Q .world; leads = rw (e .0, e .1, Q .call h) (more (T .leads) (Q .step)); related = Q .abstracts; sound = Q .sound })
+    (λ z. rw (R .refused z, none (run S c .answer) z) T)
+    (eq? (run S c .answer .code) 0)
+
+module _ {S : State} {h : History} (T : Traced S h) where
+  put-traced : (s x v : ℕ) → Traced (run S (Put s x v) .after) (after-call S (Put s x v) (run S (Put s x v) .answer) h)
+  put-traced s x v =
+      single T (Put s x v) (λ n k e. clash (cc)) (λ a z. rw (ne-eqb (a .code) 0 z))
+      (puts S (T .sound) (T .world) (T .related) s x v)
+
+  get-traced : (s x : ℕ) → Traced (run S (Get s x) .after) (after-call S (Get s x) (run S (Get s x) .answer) h)
+  get-traced s x =
+      single T (Get s x) (λ n k e. clash (cc)) (λ a z. rw (ne-eqb (a .code) 0 z))
+      (gets S (T .sound) (T .world) (T .related) s x)
+
+  deliver-traced : (s o : ℕ) → Traced (run S (Deliver s o) .after) (after-call S (Deliver s o) (run S (Deliver s o) .answer) h)
+  deliver-traced s o =
+      single T (Deliver s o) (λ n k e. clash (cc)) (λ a z. rw (ne-eqb (a .code) 0 z))
+      (delivers S (T .sound) (T .world) (T .related) s o)
+
+-- ## Drain
+
+abbrev delivered : (s : ℕ) → Numbers → Event
+delivered s a = update s (a .site) (a .clock) (a .key) (a .value)
+
+-- an accepted delivery answers its origin
+from-origin : (S : State) (s o : ℕ) → run S (Deliver s o) .answer .code ≡ 0 → run S (Deliver s o) .answer .site ≡ o
+unfolding step r.deliver
+from-origin S s o z = ap (λ (x : Outcome). x .answer .site) (run-accepted S (Deliver s o) z .1)
+
+accepted-delivery : {S : State} {h : History} → Traced S h → (s o : ℕ) → let r = run S (Deliver s o) in r .answer .code ≡ 0 → r .answer .site ≡ o
+    → Traced (r .after) (delivered s (r .answer) ∷ h)
+accepted-delivery {S} {h} T s o z e =
+    let r = run S (Deliver s o) in
+    let a = r .answer in
+    subst (λ (i : ℕ). Traced (r .after) (update s i (a .clock) (a .key) (a .value) ∷ h)) (sym e)
+    (subst (λ (t : Bool). Traced (r .after) (if t then update s o (a .clock) (a .key) (a .value) ∷ h else h)) (eq-eqb (a .code) 0 z) (deliver-traced T s o))
+
+delivers-traced : {s : ℕ} {S R : State} {h : History} {made : List Numbers} → Traced S h → Delivers s S made R → Traced R (map (delivered s) made ++ h)
+delivers-traced T start = T
+delivers-traced {s} {h = h} T (one-more {made = made} {R = Q} d o z) =
+    accepted-delivery (delivers-traced T d) s o z (from-origin Q s o z)
+
+drain-traced : {S : State} {h : History} → Traced S h → (s b : ℕ) → Traced (drain S s b .after) (map (delivered s) (drained S s b .made) ++ h)
+drain-traced {S} T s b = delivers-traced T (drain-delivers S s b .0)
+
+-- ## Any call
+
+open-traced : (n k : ℕ) → OpenReady n k → Traced (opened n k) []
+unfolding opened
+open-traced n k R = record { world = _; leads = begin; related = open-abstracts n k; sound = open-sound n k R }
+
+-- the step of an opening or of a drain of which no condition holds, and a refusal
+opening-traced : {S : State} {h : History} → Traced S h → (n k : ℕ) → Traced (run S (Open n k) .after) (after-call S (Open n k) (run S (Open n k) .answer) h)
+unfolding refusals step
+opening-traced {S} {h} T n k =
+    ⊎-elim
+    (λ p. rw (p .1) (open-traced n k (open-ready n k .0 (p .0))))
+    (λ p. rw (ne-eqb _ 0 (λ z. p .0 (sym (run-refused S (Open n k) (p .0)) ∙ z)), p .1) T)
+    (run-cases S (Open n k))
+
+-- no list of conditions has 11
+not-spent : (S : State) (c : Call) → first (refusals S c) ≢ 0 → first (refusals S c) ≢ 11
+not-spent S c h z = h (first-clear 0 (refusals S c) (ascends S c) .1 (spent-exactly S c .0 (run-refused S c h ∙ z) .0))
+
+draining-traced : {S : State} {h : History} → Traced S h → (s b : ℕ) → Traced (run S (Drain s b) .after) (after-call S (Drain s b) (run S (Drain s b) .answer) h)
+unfolding step drain
+draining-traced {S} {h} T s b =
+    ⊎-elim
+    (λ p. rw (p .1) (subst (λ t. Traced (drained S s b .after) (if t then map (delivered s) (drained S s b .made) ++ h else h)) (sym made) (drain-traced T s b)))
+    (λ p.
+    let e = run-refused S (Drain s b) (p .0) in
+    let z : eqb (run S (Drain s b) .answer .code) 0 || eqb (run S (Drain s b) .answer .code) 11 ≡ false =
+    rw (e, ne-eqb _ 0 (p .0), ne-eqb _ 11 (not-spent S (Drain s b) (p .0))) in
+    rw (z, p .1) T)
+    (run-cases S (Drain s b))
+  where
+    made : eqb (drained S s b .code) 0 || eqb (drained S s b .code) 11 ≡ true
+    made = ⊎-elim (λ z. rw z) (λ z. rw (z .0)) (drained-code S s b)
+
+pub run-traced : {S : State} {h : History} → Traced S h → (c : Call) → Traced (run S c .after) (after-call S c (run S c .answer) h)
+run-traced T (Open n k) = opening-traced T n k
+run-traced T (Put s x v) = put-traced T s x v
+run-traced T (Get s x) = get-traced T s x
+run-traced T (Deliver s o) = deliver-traced T s o
+run-traced T (Drain s b) = draining-traced T s b
+
+-- ## Demand 3
+
+traced-live : {S : State} {h : History} → Traced S h → (s o x v c : ℕ) → s < S .n → put o x v c ∈ h → Lacks h s o c
+    → (o′ : ℕ) × (run S (Deliver s o′) .answer .code ≡ 0)
+traced-live {S} {h} T s o x v c p q l =
+    let e = run-causal (T .leads) .live s o x v c q l in
+    (e .0, delivers S (T .sound) (T .world) (T .related) s (e .0) .exactly .1 (p, e .1, e .2, e .3, e .4))
+
+traced-drains : {S : State} {h : History} → Traced S h → (s b o x v c : ℕ) → run S (Drain s b) .answer .code ≡ 0 → put o x v c ∈ h
+    → Lacks (after-call S (Drain s b) (run S (Drain s b) .answer) h) s o c → ⊥
+unfolding refusals step
+traced-drains {S} {h} T s b o x v c z q l =
+    let k = run-accepted S (Drain s b) z in
+    let m : Lacks (map (delivered s) (drained S s b .made) ++ h) s o c = rw (eq-eqb (run S (Drain s b) .answer .code) 0 z) at l in
+    let n : drain S s b .after .n ≡ S .n = subst (λ (x : Outcome). x .after .n ≡ S .n) (k .1) (counts-kept S (Drain s b) (λ n k e. clash (cc)) .0) in
+    let e = traced-live (drain-traced T s b) s o x v c (omega (arith, drain-ready S s .0 (k .0) .site)) (in-right (put o x v c) (map (delivered s) (drained S s b .made)) h q) m in
+    drain-ends S s b (subst (λ (x : Outcome). x .answer .code ≡ 0) (k .1) z) (e .0) (e .1)
+
+pub traced-causal : {S : State} {h : History} → Traced S h → Causal S (λ c. run S c .answer) h
+traced-causal {S} {h} T = record { orders = λ s p. run-causal (T .leads) .orders s; live = traced-live T; drains = traced-drains T }
+
+-- ## Any calls
+
+-- the table and the history after some calls, the oldest first
+abbrev pub played : State → History → List Call → State × History
+played S h [] = (S, h)
+played S h (c ∷ cs) = played (run S c .after) (after-call S c (run S c .answer) h) cs
+
+played-traced : {S : State} {h : History} → Traced S h → (cs : List Call) → let p = played S h cs in Traced (p .0) (p .1)
+played-traced T [] = T
+played-traced T (c ∷ cs) = played-traced (run-traced T c) cs
+
+-- from a freshly opened table
+pub played-causal : (n k : ℕ) → OpenReady n k → (cs : List Call) → let p = played (opened n k) [] cs in Causal (p .0) (λ c. run (p .0) c .answer) (p .1)
+played-causal n k R cs = traced-causal (played-traced (open-traced n k R) cs)

@@ -1,0 +1,77 @@
+-- Causal consistency of a history, worked out from its events alone. Assumes nothing.
+use mathlib.Core.Path.{_≡_}
+use mathlib.Core.List.{List, [], _∷_}
+use mathlib.Core.Logic.{_⊎_, _↔_, _≢_}
+use Prim.Native.Nat.{ℕ, _<_}
+use lib.Dec.{eqb}
+use Rattle.clock.specs.Map.{if_then_else_}
+use Rattle.clock.specs.Lists.{_∈_, Before}
+use Rattle.causal.specs.World.{Answer, never, wrote, World, Behind, CausesApplied, Event, put, get, update}
+
+-- the newest event stands first
+abbrev pub History : Type 0
+History = List Event
+
+-- the event is s's own put (o, c), or a get at s that answered the put (o, c)
+abbrev pub Saw : Event → (s o c : ℕ) → Type 0
+Saw (put t x v c′) s o c = (t ≡ s) × (o ≡ s) × (c ≡ c′)
+Saw (get t x never) s o c = ⊥
+Saw (get t x (wrote v o′ c′)) s o c = (t ≡ s) × (o ≡ o′) × (c ≡ c′)
+Saw (update t o′ c′ x v) s o c = ⊥
+
+-- the put (o, c) is a cause of the put (o′, c′): its site saw it before, or it is a cause of a cause
+pub data Cause (h : History) : (o c o′ c′ : ℕ) → Type 0 where
+  direct : (e : Event) (s x v c o′ c′ : ℕ) → Before h e (put s x v c) → Saw e s o′ c′ → Cause h o′ c′ s c
+  deeper : {o c o′ c′ o″ c″ : ℕ} → Cause h o c o′ c′ → Cause h o′ c′ o″ c″ → Cause h o c o″ c″
+
+-- what a single ordinary table is asked
+pub data Op : Type 0 where
+  Write : (origin clock key value : ℕ) → Op
+  Read : (key : ℕ) → Answer → Op
+
+-- the newest write of x
+abbrev pub lookup : ℕ → List Op → Answer
+lookup x [] = never
+lookup x (Write o c y v ∷ l) = if eqb y x then wrote v o c else lookup x l
+lookup x (Read y a ∷ l) = lookup x l
+
+-- each get answers as a single ordinary table would
+abbrev pub Reads : List Op → Type 0
+Reads [] = Unit {0}
+Reads (Write o c y v ∷ l) = Reads l
+Reads (Read x a ∷ l) = (a ≡ lookup x l) × Reads l
+
+-- site s's own puts and gets, in a history and in an order
+abbrev pub calls : ℕ → History → List Op
+calls s [] = []
+calls s (put t x v c ∷ h) = if eqb t s then Write t c x v ∷ calls s h else calls s h
+calls s (get t x a ∷ h) = if eqb t s then Read x a ∷ calls s h else calls s h
+calls s (update t o c x v ∷ h) = calls s h
+
+abbrev pub own : ℕ → List Op → List Op
+own s [] = []
+own s (Write o c x v ∷ l) = if eqb o s then Write o c x v ∷ own s l else own s l
+own s (Read x a ∷ l) = Read x a ∷ own s l
+
+-- l orders, newest first, the gets of site s and the puts applied there
+pub record Ordered (h : History) (s : ℕ) (l : List Op) : Type 0 where
+  -- its own calls stand in the order in which they were made
+  pub mine : own s l ≡ calls s h
+  -- its puts are exactly those that it made or applied
+  pub applied : (o c x v : ℕ) → (Write o c x v ∈ l) ↔ ((put o x v c ∈ h) × ((o ≡ s) ⊎ (update s o c x v ∈ h)))
+  -- none stands twice
+  pub once : (o c x v x′ v′ : ℕ) → Before l (Write o c x v) (Write o c x′ v′) → ⊥
+  -- each stands after its causes
+  pub caused : (o c x v o′ c′ : ℕ) → Write o c x v ∈ l → Cause h o′ c′ o c
+      → (x′ : ℕ) × (v′ : ℕ) × Before l (Write o′ c′ x′ v′) (Write o c x v)
+  -- each get answers as a single ordinary table would
+  pub reads : Reads l
+
+-- site s lacks the put (o, c)
+abbrev pub Lacks : History → (s o c : ℕ) → Type 0
+Lacks h s o c = (o ≢ s) × ((x v : ℕ) → update s o c x v ∈ h → ⊥)
+
+-- what every run of figure 7 has; where a site lacks a put, some update is enabled there
+pub record CausalRun (n : ℕ) (h : History) (W : World) : Type 0 where
+  pub orders : (s : ℕ) → (l : List Op) × Ordered h s l
+  pub live : (s o x v c : ℕ) → put o x v c ∈ h → Lacks h s o c → (o′ : ℕ) × (o′ < n) × (s ≢ o′) × Behind W s o′ × CausesApplied W s o′

@@ -1,0 +1,102 @@
+-- What the table's numbers mean in figure 7, when a call is figure 7's step, and what the history of calls must be. Assumes nothing.
+use mathlib.Core.Path.{_≡_}
+use mathlib.Core.Bool.{_||_}
+use mathlib.Core.List.{List, [], _∷_, _++_, map}
+use mathlib.Core.Logic.{_⊎_, _↔_, _≢_}
+use Prim.Native.Nat.{ℕ, _+_, _^_, _≤_, _<_}
+use lib.Dec.{eqb}
+use lib.ListN.{length}
+use Rattle.clock.specs.Map.{if_then_else_}
+use Rattle.clock.specs.Lists.{_∈_}
+use Rattle.clock.specs.Vector.{Vector, join, note}
+use Rattle.layout.specs.State.{State}
+use Rattle.rules.specs.Sound.{place, Retained, Sound}
+use Rattle.rules.specs.Steps.{Numbers, done, Outcome}
+use Rattle.rules.specs.Drain.{drained}
+use Rattle.rules.specs.Calls.{Call, Open, Put, Get, Deliver, Drain}
+use Rattle.causal.specs.World.{Set, just, _∪_, Answer, never, wrote, World, nth, waiting, Behind, CausesApplied, Event, put, get, update, Step}
+use Rattle.causal.specs.History.{History, Op, Ordered, Lacks}
+
+-- "the greatest clock in the set, and 0 when there is none", for each site, over all eight columns
+pub record Tops (v : Vector) (d : Set) : Type 0 where
+  pub eight : (o c : ℕ) → d o c → o < 8
+  pub above : (o c : ℕ) → d o c → c ≤ v o
+  pub met : (o : ℕ) → o < 8 → (v o ≡ 0) ⊎ d o (v o)
+
+-- "the two give the same answers": to UPDATE's check, to which sites fail it, and after a put and a get
+pub record SameAnswers (v : Vector) (d : Set) : Type 1 where
+  pub check : (a : Vector) → ((o c : ℕ) → d o c → c ≤ a o) ↔ ((j : ℕ) → j < 8 → v j ≤ a j)
+  pub fails : (a : Vector) (j : ℕ) → j < 8 → ((c : ℕ) × d j c × (a j < c)) ↔ (a j < v j)
+  pub noted : (o c : ℕ) → o < 8 → Tops (note v o c) (d ∪ just o c)
+  pub joined : (w : Vector) (e : Set) → Tops w e → Tops (join v w) (d ∪ e)
+
+-- clock 0 is the mark of a key never written
+abbrev pub answer : (value origin clock : ℕ) → Answer
+answer v o c = if eqb c 0 then never else wrote v o c
+
+-- the world's parts in the table's numbers; updates that every site has applied are free
+pub record Abstracts (S : State) (W : World) : Type 0 where
+  pub applied : (s o : ℕ) → s < S .n → o < 8 → W .applied s o ≡ S .applied s o
+  pub depends : (s : ℕ) → s < S .n → Tops (S .depends s) (W .depends s)
+  pub answers : (s x : ℕ) → s < S .n → x < S .k → let e = S .store s x in W .store s x .answer ≡ answer (e .value) (e .origin) (e .clock)
+  pub store : (s x : ℕ) → s < S .n → x < S .k → Tops (S .store s x .depends) (W .store s x .depends)
+  pub count : (o : ℕ) → o < S .n → length (W .updates o) ≡ S .applied o o
+  pub updates : (o c : ℕ) → o < S .n → Retained S o c → let u = S .updates o (place c) in let w = nth (W .updates o) c in
+      (w .key ≡ u .key) × (w .value ≡ u .value) × Tops (u .depends) (w .depends)
+
+-- the five numbers that a label says
+abbrev pub numbers : Event → Numbers
+numbers (put s x v c) = done x s c v
+numbers (get s x never) = done x 0 0 0
+numbers (get s x (wrote v o c)) = done x o c v
+numbers (update s o c x v) = done x o c v
+
+-- the history after a call: a refused one makes no event, opening starts a new history, a drain has the events of its deliveries, also before an 11
+abbrev pub after-call : State → Call → Numbers → History → History
+after-call S (Open n k) a h = if eqb (a .code) 0 then [] else h
+after-call S (Put s x v) a h = if eqb (a .code) 0 then put s x v (a .clock) ∷ h else h
+after-call S (Get s x) a h = if eqb (a .code) 0 then get s x (answer (a .value) (a .site) (a .clock)) ∷ h else h
+after-call S (Deliver s o) a h = if eqb (a .code) 0 then update s o (a .clock) (a .key) (a .value) ∷ h else h
+after-call S (Drain s b) a h = if eqb (a .code) 0 || eqb (a .code) 11 then map (λ (d : Numbers). update s (d .site) (d .clock) (d .key) (d .value)) (drained S s b .made) ++ h else h
+
+-- figure 7's step, its label the call's event and the whole answer; its world is that of the table, which is sound
+pub record Steps (S : State) (W : World) (c : Call) (r : Outcome) : Type 1 where
+  pub event : Event
+  pub world : World
+  pub step : Step (S .n) (S .k) W event world
+  pub call : (h : History) → after-call S c (r .answer) h ≡ event ∷ h
+  pub answer : r .answer ≡ numbers event
+  pub abstracts : Abstracts (r .after) world
+  pub sound : Sound (r .after)
+
+-- 0 exactly when P; then figure 7's step, else nothing
+pub record Refines (S : State) (W : World) (c : Call) (P : Type 0) (r : Outcome) : Type 1 where
+  pub exactly : (r .answer .code ≡ 0) ↔ P
+  pub accepted : r .answer .code ≡ 0 → Steps S W c r
+  pub refused : r .answer .code ≢ 0 → r .after ≡ S
+
+-- 9 and 10 say which premise of UPDATE fails; 10 names the lowest failing site and the greatest clock that it has in the set
+pub record Tells (S : State) (W : World) (s o : ℕ) (a : Numbers) : Type 0 where
+  pub nine : (a .code ≡ 9) ↔ ((s < S .n) × (o < S .n) × (s ≢ o) × (Behind W s o → ⊥))
+  pub ten : (a .code ≡ 10) ↔ ((s < S .n) × (o < S .n) × (s ≢ o) × Behind W s o × (CausesApplied W s o → ⊥))
+  pub fails : a .code ≡ 10 → waiting W s o .depends (a .site) (a .clock) × (W .applied s (a .site) < a .clock)
+  pub lowest : a .code ≡ 10 → (o′ c′ : ℕ) → o′ < a .site → waiting W s o .depends o′ c′ → c′ ≤ W .applied s o′
+  pub greatest : a .code ≡ 10 → (c′ : ℕ) → waiting W s o .depends (a .site) c′ → c′ ≤ a .clock
+
+-- a call is accepted exactly when names, room (clocks to 65,535, sixteen places for each origin) and figure 7 allow it
+pub record Follows (S : State) (W : World) (result : Call → Outcome) : Type 1 where
+  pub puts : (s x v : ℕ) → v < 256 ^ 4 → Refines S W (Put s x v)
+      ((s < S .n) × (x < S .k) × (S .applied s s ≢ 65535) × ((t : ℕ) → t < S .n → S .applied s s < S .applied t s + 16)) (result (Put s x v))
+  pub gets : (s x : ℕ) → Refines S W (Get s x) ((s < S .n) × (x < S .k)) (result (Get s x))
+  pub delivers : (s o : ℕ) → Refines S W (Deliver s o) ((s < S .n) × (o < S .n) × (s ≢ o) × Behind W s o × CausesApplied W s o) (result (Deliver s o))
+  pub tells : (s o : ℕ) → Tells S W s o (result (Deliver s o) .answer)
+
+-- a table that answers calls so, and the history of its calls since it was opened
+pub record Causal (S : State) (answers : Call → Numbers) (h : History) : Type 0 where
+  -- each site has an order of its gets and of the puts applied there
+  pub orders : (s : ℕ) → s < S .n → (l : List Op) × Ordered h s l
+  -- while a site lacks an accepted put, some delivery to it is accepted
+  pub live : (s o x v c : ℕ) → s < S .n → put o x v c ∈ h → Lacks h s o c → (o′ : ℕ) × (answers (Deliver s o′) .code ≡ 0)
+  -- a drain that answers 0 has left its site holding every accepted put
+  pub drains : (s b o x v c : ℕ) → answers (Drain s b) .code ≡ 0 → put o x v c ∈ h
+      → Lacks (after-call S (Drain s b) (answers (Drain s b)) h) s o c → ⊥
