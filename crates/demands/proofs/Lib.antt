@@ -1,0 +1,3 @@
+pub mod Serving
+pub mod Proved
+pub mod Schedule

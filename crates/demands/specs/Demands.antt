@@ -1,0 +1,54 @@
+-- The three demands, over bytes. A public call's promise: its answer and the bytes it leaves are those of `serve` (crates/rules/specs/Calls). Assumes nothing.
+use mathlib.Core.Path.{_≡_}
+use mathlib.Core.List.{List, [], _∷_}
+use mathlib.Core.Logic.{_↔_, _≢_}
+use Prim.Native.Nat.{ℕ, _^_, _<_}
+use lib.ListN.{length}
+use Rattle.clock.specs.Lists.{_∈_}
+use Rattle.layout.specs.State.{table, stateOf}
+use Rattle.layout.specs.Ranges.{Bytes}
+use Rattle.rules.specs.Sound.{Sound}
+use Rattle.rules.specs.Steps.{refused}
+use Rattle.rules.specs.Calls.{Call, Open, Put, asks, Served, serve}
+use Rattle.rules.specs.Theorems.{Given, Clear, Enough, Spent}
+use Rattle.causal.specs.World.{World}
+use Rattle.causal.specs.History.{History}
+use Rattle.causal.specs.Refines.{Abstracts, Follows, after-call, Causal}
+
+-- a call on a buffer, under document 01's conditions in order, the size of the buffer first
+pub record Answered (t : List ℕ) (c : Call) (r : Served) : Type 0 where
+  -- a code but 0 and 11 is answered exactly when its condition holds and that of no lower code does
+  pub given : (e : ℕ) → e ≢ 0 → e ≢ 11 → (r .answer .code ≡ e) ↔ Given (asks t c) e
+  -- 0 and 11 exactly when no condition holds, by whether a drain's budget is enough
+  pub accepted : (r .answer .code ≡ 0) ↔ (Clear (asks t c) × Enough (stateOf t) c)
+  pub spent : (r .answer .code ≡ 11) ↔ (Clear (asks t c) × Spent (stateOf t) c)
+  -- every refusal but 11 leaves the bytes, and but 10 and 11 answers zeros beside its code
+  pub keeps : r .answer .code ≢ 0 → r .answer .code ≢ 11 → r .bytes ≡ t
+  pub zeros : (e : ℕ) → e ≢ 0 → e ≢ 10 → e ≢ 11 → r .answer .code ≡ e → r .answer ≡ refused e
+  -- and every call leaves as many bytes
+  pub whole : (length (r .bytes) ≡ length t) × Bytes (r .bytes)
+
+-- for every buffer
+abbrev pub Demand1 : Type 0
+Demand1 = (t : List ℕ) → Bytes t → (c : Call) → Answered t c (serve t c)
+
+-- from every sound table: some world abstracts it, and for each that does its calls are figure 7's steps
+abbrev pub Demand2 : Type 1
+Demand2 =
+    (t : List ℕ) → Bytes t → length t ≡ table .width → Sound (stateOf t) →
+    ((W : World) × Abstracts (stateOf t) W)
+    × ((W : World) → Abstracts (stateOf t) W
+    → Follows (stateOf t) W (λ c. let r = serve t c in record { answer = r .answer; after = stateOf (r .bytes) }))
+
+-- a buffer and its history after some calls, the oldest first
+abbrev pub play : List ℕ → History → List Call → List ℕ × History
+play t h [] = (t, h)
+play t h (c ∷ cs) = let r = serve t c in play (r .bytes) (after-call (stateOf t) c (r .answer) h) cs
+
+-- from a freshly opened table, after any calls with any numbers (a value is 4 bytes)
+abbrev pub Demand3 : Type 0
+Demand3 =
+    (t : List ℕ) (n k : ℕ) → serve t (Open n k) .answer .code ≡ 0 →
+    (cs : List Call) → ((s x v : ℕ) → Put s x v ∈ cs → v < 256 ^ 4) →
+    let p = play (serve t (Open n k) .bytes) [] cs in
+    Causal (stateOf (p .0)) (λ c. serve (p .0) c .answer) (p .1)

@@ -1,0 +1,1 @@
+// The three demands on the public calls, over bytes: definitions and theorems, no code.
