@@ -1,0 +1,90 @@
+-- Refusals that are asked in turn: where none of the first holds the next are asked, else the answer stands. Assumes nothing.
+use mathlib.Core.Path.{_≡_, refl}
+use mathlib.Core.Bool.{Bool, true, false, not}
+use mathlib.Core.List.{List, [], _∷_, _++_}
+use mathlib.Core.Logic.{⊎-elim, _≢_}
+use Prim.Native.Nat.{ℕ}
+use native.Mathlib.Omega.{arith}
+use lib.Dec.{eqb}
+use Rattle.clock.specs.Map.{if_then_else_}
+use Rattle.rules.proofs.Given.{Ascends, past, end}
+use Rattle.clock.proofs.Says.{says-eq, denies-not, denies-or, denies-le, denies-eq}
+use lib.ListN.{length}
+use borrow.Author.Tests.{eqb-true}
+use types.Run.{OneOf}
+use denote.Enum.Declared.{tagOf}
+use Rattle.table.proofs.Refusal.{the-type}
+use Rattle.layout.specs.State.{State, stateOf}
+use Rattle.rules.specs.Sound.{sound, Sound}
+use Rattle.rules.proofs.Tested.{sound-tested}
+use Rattle.rules.specs.Refusals.{Refusals, first}
+use Rattle.rules.specs.Calls.{Put, Get, refusals, asks}
+use Rattle.rules.proofs.Ready.{GetReady, get-ready, PutReady, put-ready}
+use Rattle.rules.proofs.Serving.{asks-clear}
+use Rattle.table.specs.declared.Refusal.{Refusal}
+use Rattle.table.specs.declared.Refusal.the-variants.{Nothing, Size, Unsound, Counts, Site, Same, Key, Spent, Full, NoNext}
+use Rattle.table.specs.Answers.{codeOf}
+use Rattle.table.specs.Asked.{tableIn, deliverIn, Attempts}
+
+pub first-then : (b : ℕ) (ps qs : Refusals) → Ascends b ps → first ps ≡ 0 → first qs ≡ first (ps ++ qs)
+first-then b [] qs h e = refl
+first-then b (p ∷ ps) qs h e = go (p .1) refl e (first-then (p .0) ps qs (h .1))
+  where
+    go : (t : Bool) → p .1 ≡ t → (if t then p .0 else first ps) ≡ 0 → (first ps ≡ 0 → first qs ≡ first (ps ++ qs)) → first qs ≡ (if p .1 then p .0 else first (ps ++ qs))
+    go true f z r = absurd (omega (arith, h .0))
+    go false f z r = rw f (r z)
+
+pub first-stop : (ps qs : Refusals) → first ps ≢ 0 → first ps ≡ first (ps ++ qs)
+first-stop [] qs h = absurd (h refl)
+first-stop (p ∷ ps) qs h = go (p .1) refl h (first-stop ps qs)
+  where
+    go : (t : Bool) → p .1 ≡ t → (if t then p .0 else first ps) ≢ 0 → (first ps ≢ 0 → first ps ≡ first (ps ++ qs))
+        → (if p .1 then p .0 else first ps) ≡ (if p .1 then p .0 else first (ps ++ qs))
+    go true f z r = rw f
+    go false f z r = rw f (r z)
+
+-- the other arms of a match on a refusal
+pub refusing : (r : Refusal) → OneOf (1 ∷ 2 ∷ 3 ∷ 4 ∷ 5 ∷ 6 ∷ 7 ∷ 8 ∷ 9 ∷ []) (tagOf the-type r) → codeOf r ≢ 0
+refusing Nothing h = absurd (never h)
+  where
+    never : OneOf (1 ∷ 2 ∷ 3 ∷ 4 ∷ 5 ∷ 6 ∷ 7 ∷ 8 ∷ 9 ∷ []) 0 → ⊥
+    never =
+        ⊎-elim (λ e. omega arith) (⊎-elim (λ e. omega arith) (⊎-elim (λ e. omega arith) (⊎-elim (λ e. omega arith) (⊎-elim (λ e. omega arith)
+        (⊎-elim (λ e. omega arith) (⊎-elim (λ e. omega arith) (⊎-elim (λ e. omega arith) (λ e. omega arith))))))))
+refusing Size h = omega arith
+refusing Unsound h = omega arith
+refusing Counts h = omega arith
+refusing Site h = omega arith
+refusing Same h = omega arith
+refusing Key h = omega arith
+refusing Spent h = omega arith
+refusing Full h = omega arith
+refusing NoNext h = omega arith
+
+-- neither 1 nor 2: the buffer holds a sound table
+pub table-clear : (t : List ℕ) → first (tableIn t) ≡ 0 → (length t ≡ 15620) × Sound (stateOf t)
+table-clear t = go (eqb (length t) 15620) (sound (stateOf t)) refl refl
+  where
+    go : (a b : Bool) → eqb (length t) 15620 ≡ a → sound (stateOf t) ≡ b → first ((1, not a) ∷ (2, not b) ∷ []) ≡ 0 → (length t ≡ 15620) × Sound (stateOf t)
+    go true true e f z = (eqb-true (length t) 15620 e, sound-tested (stateOf t) .0 f)
+    go true false e f z = absurd (omega arith)
+    go false b e f z = absurd (omega arith)
+
+-- no condition holds: the buffer's size, and what the step may rely on
+module _ (t : List ℕ) (s x : ℕ) where
+  pub get-clear : first (asks t (Get s x)) ≡ 0 → (length t ≡ 15620) × GetReady (stateOf t) s x
+  unfolding refusals
+  get-clear h = let r = asks-clear t (Get s x) h in (r .0, get-ready (stateOf t) s x .0 (r .1))
+
+  pub put-clear : (v : ℕ) → first (asks t (Put s x v)) ≡ 0 → (length t ≡ 15620) × PutReady (stateOf t) s x
+  unfolding refusals
+  put-clear v h = let r = asks-clear t (Put s x v) h in (r .0, put-ready (stateOf t) s x .0 (r .1))
+
+pub deliver-clear : (t : List ℕ) (s o : ℕ) → first (deliverIn t s o) ≡ 0 → Attempts t s o
+deliver-clear t s o h =
+    let S : State = stateOf t in
+    let r =
+    past 1 (omega arith) (denies-not (says-eq (length t) 15620))
+    (past 2 (omega arith) (denies-not (sound-tested S))
+    (past 4 (omega arith) (denies-or (denies-le (S .n) s) (denies-le (S .n) o)) (past 5 (omega arith) (denies-eq s o) end))) .exactly .0 h in
+    record { size = r .0; sound = r .1 .0; site = r .1 .1 .0 .0; origin = r .1 .1 .0 .1; others = r .1 .1 .1 .0 }

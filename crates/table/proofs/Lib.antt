@@ -1,0 +1,4 @@
+pub mod Stores
+pub mod Codes
+pub mod Tries
+pub mod Serves

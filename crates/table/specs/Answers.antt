@@ -1,0 +1,32 @@
+-- The document's numbers for each case of an answer, and the promise of a call. Assumes nothing.
+use mathlib.Core.List.{List}
+use Prim.Native.Nat.{ℕ}
+use Rattle.rules.specs.Steps.{Numbers, refused, done}
+use Rattle.rules.specs.Calls.{Served}
+use Rattle.table.specs.declared.Refusal.{Refusal}
+use Rattle.table.specs.declared.Refusal.the-variants.{Nothing, Size, Unsound, Counts, Site, Same, Key, Spent, Full, NoNext}
+use Rattle.table.specs.declared.Answer.{Answer}
+use Rattle.table.specs.declared.Answer.the-variants.{Done, Missing, Drained, Stopped, Refused}
+
+abbrev pub codeOf : Refusal → ℕ
+codeOf Nothing = 0
+codeOf Size = 1
+codeOf Unsound = 2
+codeOf Counts = 3
+codeOf Site = 4
+codeOf Same = 5
+codeOf Key = 6
+codeOf Spent = 7
+codeOf Full = 8
+codeOf NoNext = 9
+
+abbrev pub numbersOf : Answer → Numbers
+numbersOf (Done x s c v) = done x s c v
+numbersOf (Missing j c) = record { code = 10; key = 0; site = j; clock = c; value = 0 }
+numbersOf (Drained d t) = record { code = 0; key = 0; site = 0; clock = d; value = t }
+numbersOf (Stopped d t) = record { code = 11; key = 0; site = 0; clock = d; value = t }
+numbersOf (Refused r) = refused (codeOf r)
+
+-- what a call that answered r has served, with the bytes t at its exit
+abbrev pub served : Answer → List ℕ → Served
+served r t = record { answer = numbersOf r; bytes = t }

@@ -1,0 +1,385 @@
+// Open, put, get and deliver over a lent buffer of any length.
+ghost use mathlib.Core.Path.{_≡_};
+ghost use Prim.Native.Nat.{_+_, _≤_, _<_};
+ghost use Rattle.layout.specs.State.{stateOf};
+ghost use Rattle.layout.specs.Records.{cells2, entryOf};
+ghost use Rattle.rules.specs.Steps.{next, put, learn, deliver};
+ghost use Rattle.rules.specs.Refusals.{first};
+ghost use Rattle.rules.specs.Drain.{try};
+ghost use Rattle.rules.specs.Calls.{Open, Put, Get, Deliver, asks, serve};
+ghost use Rattle.table.specs.Answers.{codeOf, numbersOf, served};
+ghost use Rattle.table.specs.Asked.{tableIn, namesIn, sitesIn, fullIn, roomIn, deliverIn, PutFits, GetFits, DeliverFits, Attempts};
+use clock::Clock;
+use clock::Compared;
+use layout::Record;
+use layout::Table;
+
+// Why a call is refused, in the order of the codes; Nothing where it is not.
+pub enum Refusal {
+    Nothing,
+    Size,
+    Unsound,
+    Counts,
+    Site,
+    Same,
+    Key,
+    Spent,
+    Full,
+    NoNext,
+}
+
+// What a call answers.
+pub enum Answer {
+    Done {
+        key: u8,
+        site: u8,
+        clock: u16,
+        value: u32,
+    },
+    Missing {
+        site: u8,
+        clock: u16,
+    },
+    Drained {
+        deliveries: u16,
+        tries: u16,
+    },
+    Stopped {
+        deliveries: u16,
+        tries: u16,
+    },
+    Refused(Refusal),
+}
+
+// The number of a refusal, and of an answer.
+fn refusal_code(r: Refusal) -> u8
+    ensures { λ c. ⌜ c ≡ codeOf r ⌝ }
+{
+    match r {
+        Refusal::Nothing => 0,
+        Refusal::Size => 1,
+        Refusal::Unsound => 2,
+        Refusal::Counts => 3,
+        Refusal::Site => 4,
+        Refusal::Same => 5,
+        Refusal::Key => 6,
+        Refusal::Spent => 7,
+        Refusal::Full => 8,
+        Refusal::NoNext => 9,
+    }
+}
+
+pub fn code(a: Answer) -> u8
+    ensures { λ c. ⌜ c ≡ numbersOf a .code ⌝ }
+{
+    match a {
+        Answer::Done {
+            key: _,
+            site: _,
+            clock: _,
+            value: _,
+        } => 0,
+        Answer::Missing { site: _, clock: _ } => 10,
+        Answer::Drained {
+            deliveries: _,
+            tries: _,
+        } => 0,
+        Answer::Stopped {
+            deliveries: _,
+            tries: _,
+        } => 11,
+        Answer::Refused(r) => refusal_code(r),
+    }
+}
+
+// 1 and 2: the buffer's size, and the soundness of the table in it.
+pub fn table_refusal(t: &[u8]) -> Refusal
+    ensures { λ r. ⌜ codeOf r ≡ first (tableIn (now (t .entry))) ⌝ }
+{
+    if t.len() != Table::BYTES {
+        return Refusal::Size;
+    }
+    if !sound::sound(t) {
+        return Refusal::Unsound;
+    }
+    Refusal::Nothing
+}
+
+// Some site has applied 16 fewer of s's puts than s.
+fn full(a: [[u16; 8]; 8], n: usize, s: usize) -> bool
+    requires { ⌜ (n ≤ 8) × (s < 8) ⌝ }
+    ensures { λ r. ⌜ r ≡ fullIn (cells2 a) n s ⌝ }
+{
+    let top = layout::wide(a[s][s]);
+    let mut i = 0;
+    while i < n {
+        if layout::wide(a[i][s]) + Table::PLACES == top {
+            return true;
+        }
+        i += 1;
+    }
+    false
+}
+
+// 4 and 6: a site and a key.
+fn names_refusal(n: usize, k: usize, s: usize, x: usize) -> Refusal
+    ensures { λ r. ⌜ codeOf r ≡ first (namesIn n k s x) ⌝ }
+{
+    if n <= s {
+        return Refusal::Site;
+    }
+    if k <= x {
+        return Refusal::Key;
+    }
+    Refusal::Nothing
+}
+
+// 4 and 5: two sites.
+fn sites_refusal(n: usize, s: usize, o: usize) -> Refusal
+    ensures { λ r. ⌜ codeOf r ≡ first (sitesIn n s o) ⌝ }
+{
+    if n <= s {
+        return Refusal::Site;
+    }
+    if n <= o {
+        return Refusal::Site;
+    }
+    if s == o {
+        return Refusal::Same;
+    }
+    Refusal::Nothing
+}
+
+// 7 and 8: room for one more put of s.
+fn room_refusal(a: [[u16; 8]; 8], n: usize, s: usize) -> Refusal
+    requires { ⌜ (n ≤ 8) × (s < 8) ⌝ }
+    ensures { λ r. ⌜ codeOf r ≡ first (roomIn (cells2 a) n s) ⌝ }
+{
+    if a[s][s] == Table::LAST_CLOCK {
+        return Refusal::Spent;
+    }
+    if full(a, n, s) {
+        return Refusal::Full;
+    }
+    Refusal::Nothing
+}
+
+fn get_refusal(t: &[u8], s: usize, x: usize) -> Refusal
+    ensures { λ r. ⌜ codeOf r ≡ first (asks (now (t .entry)) (Get s x)) ⌝ }
+{
+    let why = table_refusal(t);
+    match why {
+        Refusal::Nothing => {
+            let h = layout::read_header(t);
+            names_refusal(layout::wide_byte(h.n), layout::wide_byte(h.k), s, x)
+        }
+        _ => why,
+    }
+}
+
+fn put_refusal(t: &[u8], s: usize, x: usize) -> Refusal
+    ensures { λ r. ⌜ codeOf r ≡ first (asks (now (t .entry)) (Put s x 0)) ⌝ }
+{
+    let why = get_refusal(t, s, x);
+    match why {
+        Refusal::Nothing => {
+            let h = layout::read_header(t);
+            room_refusal(layout::applied(t), layout::wide_byte(h.n), s)
+        }
+        _ => why,
+    }
+}
+
+// One more than a clock that is not the last.
+fn after(c: u16) -> u16
+    requires { ⌜ (c ≡ 65535 → ⊥) ⌝ }
+    ensures { λ r. ⌜ r ≡ c + 1 ⌝ }
+{
+    c + 1
+}
+
+// The update at its place, the entry, the applied count and the dependency row.
+fn put_step(t: &mut [u8], s: usize, x: usize, v: u32) -> u16
+    requires { ⌜ PutFits (now t) s x ⌝ }
+    ensures { λ r. ⌜ (r ≡ next (stateOf (now (t .entry))) s s) × (stateOf (now (t .exit)) ≡ put (stateOf (now (t .entry))) s x v .after) ⌝ }
+{
+    let a = layout::applied(t);
+    let d = layout::depends(t);
+    let c = after(a[s][s]);
+    let p = layout::wide(c - 1) % Table::PLACES;
+    let row = Clock { col: d[s] };
+    let zero = Clock::zero();
+    let noted = row.note(s, c);
+    layout::set_update(
+        t,
+        s,
+        p,
+        Record {
+            value: v,
+            tag: x as u8,
+            zero: 0,
+            clock: c,
+            depends: row,
+        },
+    );
+    layout::set_entry(
+        t,
+        s,
+        x,
+        Record {
+            value: v,
+            tag: s as u8,
+            zero: 0,
+            clock: c,
+            depends: zero,
+        },
+    );
+    layout::set_applied(t, s, s, c);
+    layout::set_depends(t, s, noted);
+    c
+}
+
+pub fn put(t: &mut [u8], s: usize, x: usize, v: u32) -> Answer
+    ensures { λ r. ⌜ served r (now (t .exit)) ≡ serve (now (t .entry)) (Put s x v) ⌝ }
+{
+    let why = put_refusal(t, s, x);
+    match why {
+        Refusal::Nothing => {
+            let c = put_step(t, s, x, v);
+            Answer::Done {
+                key: x as u8,
+                site: s as u8,
+                clock: c,
+                value: v,
+            }
+        }
+        _ => Answer::Refused(why),
+    }
+}
+
+// The entry; if its clock is not 0, the dependency row joined with its vector and then with its pair.
+fn get_step(t: &mut [u8], s: usize, x: usize) -> Record
+    requires { ⌜ GetFits (now t) s x ⌝ }
+    ensures { λ r. ⌜ (entryOf r ≡ stateOf (now (t .entry)) .store s x) × (stateOf (now (t .exit)) ≡ learn (stateOf (now (t .entry))) s x) ⌝ }
+{
+    let e = layout::entry_at(t, s, x);
+    let c = e.clock;
+    if c == 0 {
+        return e;
+    }
+    let d = layout::depends(t);
+    let row = Clock { col: d[s] };
+    let depends = e.depends;
+    let noted = row.join(depends).note(layout::wide_byte(e.tag), c);
+    layout::set_depends(t, s, noted);
+    e
+}
+
+pub fn get(t: &mut [u8], s: usize, x: usize) -> Answer
+    ensures { λ r. ⌜ served r (now (t .exit)) ≡ serve (now (t .entry)) (Get s x) ⌝ }
+{
+    let why = get_refusal(t, s, x);
+    match why {
+        Refusal::Nothing => {
+            let e = get_step(t, s, x);
+            Answer::Done {
+                key: x as u8,
+                site: e.tag,
+                clock: e.clock,
+                value: e.value,
+            }
+        }
+        _ => Answer::Refused(why),
+    }
+}
+
+// The entry of the update's key at s, and the applied count.
+fn deliver_step(t: &mut [u8], s: usize, o: usize, u: Record, c: u16)
+    requires { ⌜ DeliverFits (now t) s o u c ⌝ }
+    ensures { λ _. ⌜ stateOf (now (t .exit)) ≡ deliver (stateOf (now (t .entry))) s o .after ⌝ }
+{
+    let depends = u.depends;
+    let e = Record {
+        value: u.value,
+        tag: o as u8,
+        zero: 0,
+        clock: c,
+        depends: depends,
+    };
+    layout::set_entry(t, s, layout::wide_byte(u.tag), e);
+    layout::set_applied(t, s, o, c);
+}
+
+// One delivery attempted, on a sound table and two of its sites: what is left to ask is 9 and 10.
+pub fn attempt(t: &mut [u8], s: usize, o: usize) -> Answer
+    requires { ⌜ Attempts (now t) s o ⌝ }
+    ensures { λ r. ⌜ (numbersOf r ≡ try (stateOf (now (t .entry))) s o .answer) × (stateOf (now (t .exit)) ≡ try (stateOf (now (t .entry))) s o .after) ⌝ }
+{
+    let a = layout::applied(t);
+    let here = a[s][o];
+    if here == a[o][o] {
+        return Answer::Refused(Refusal::NoNext);
+    }
+    let u = layout::update_at(t, o, layout::wide(here) % Table::PLACES);
+    let depends = u.depends;
+    let row = Clock { col: a[s] };
+    let miss = depends.compare(row);
+    match miss {
+        Compared::Within => {
+            let c = after(here);
+            deliver_step(t, s, o, u, c);
+            Answer::Done {
+                key: u.tag,
+                site: o as u8,
+                clock: c,
+                value: u.value,
+            }
+        }
+        Compared::Beyond { column, number } => Answer::Missing {
+            site: column as u8,
+            clock: number,
+        },
+    }
+}
+
+fn deliver_refusal(t: &[u8], s: usize, o: usize) -> Refusal
+    ensures { λ r. ⌜ codeOf r ≡ first (deliverIn (now (t .entry)) s o) ⌝ }
+{
+    let why = table_refusal(t);
+    match why {
+        Refusal::Nothing => {
+            let h = layout::read_header(t);
+            sites_refusal(layout::wide_byte(h.n), s, o)
+        }
+        _ => why,
+    }
+}
+
+pub fn deliver(t: &mut [u8], s: usize, o: usize) -> Answer
+    ensures { λ r. ⌜ served r (now (t .exit)) ≡ serve (now (t .entry)) (Deliver s o) ⌝ }
+{
+    let why = deliver_refusal(t, s, o);
+    match why {
+        Refusal::Nothing => attempt(t, s, o),
+        _ => Answer::Refused(why),
+    }
+}
+
+pub fn open(t: &mut [u8], n: usize, k: usize) -> Answer
+    ensures { λ r. ⌜ served r (now (t .exit)) ≡ serve (now (t .entry)) (Open n k) ⌝ }
+{
+    if t.len() != Table::BYTES {
+        return Answer::Refused(Refusal::Size);
+    }
+    if !sound::in_range(n, k) {
+        return Answer::Refused(Refusal::Counts);
+    }
+    layout::clear(t);
+    layout::set_counts(t, n as u8, k as u8);
+    Answer::Done {
+        key: 0,
+        site: 0,
+        clock: 0,
+        value: 0,
+    }
+}
