@@ -1,0 +1,36 @@
+-- What a call from a C program returns, and what it leaves in the two buffers. Assumes nothing.
+use mathlib.Core.Path.{_≡_, refl}
+use mathlib.Core.List.{List}
+use Prim.Native.Nat.{ℕ}
+use lib.Dec.{eqb}
+use lib.ListN.{length}
+use Rattle.clock.specs.Map.{if_then_else_}
+use Rattle.layout.specs.Codec.{Codec, number, _then_}
+use Rattle.layout.specs.State.{clock}
+use Rattle.rules.specs.Steps.{Numbers}
+use Rattle.rules.specs.Calls.{Call, serve}
+
+-- "The reply is 12 bytes: code, key, site, zero, clock (2), two zeros, value (4)"
+abbrev pub reply : Codec (ℕ × (ℕ × (ℕ × (ℕ × (ℕ × (ℕ × ℕ))))))
+reply = number 1 then number 1 then number 1 then number 1 then clock then number 2 then number 4
+
+twelve : reply .width ≡ 12
+twelve = refl
+
+abbrev pub replyOf : Numbers → List ℕ
+replyOf a = reply .enc (a .code, (a .key, (a .site, (0, (a .clock, (0, a .value))))))
+
+-- the returned code, and the bytes of the two buffers
+pub record Hosted : Type 0 where
+  pub code : ℕ
+  pub table : List ℕ
+  pub reply : List ℕ
+
+abbrev pub left : (code : ℕ) (table reply : List ℕ) → Hosted
+left c t r = record { code = c; table = t; reply = r }
+
+-- "If the reply buffer is not 12 bytes, neither buffer is written and 1 comes back"
+unfoldable pub host : (table reply : List ℕ) → Call → Hosted
+host t r c =
+    let w = serve t c in
+    if eqb (length r) 12 then left (w .answer .code) (w .bytes) (replyOf (w .answer)) else left 1 t r

@@ -1,0 +1,11 @@
+-- What a written reply stands for. Assumes nothing.
+use mathlib.Core.Path.{_≡_}
+use mathlib.Core.List.{List}
+use Prim.Native.Nat.{ℕ}
+use Rattle.rules.specs.Steps.{Numbers}
+use Rattle.forkcanyon.specs.Host.{replyOf}
+
+-- the numbers a stand in the reply r, and their code came back
+pub record Replied (code : ℕ) (r : List ℕ) (a : Numbers) : Type 0 where
+  pub returned : code ≡ a .code
+  pub written : r ≡ replyOf a

@@ -1,0 +1,108 @@
+// The five calls as a C program makes them: with numbers, the table's bytes and a reply of 12 bytes. Host numbers are
+// 64 bits wide, so that none is cut on the way in; the value is 32.
+ghost use mathlib.Core.Path.{_≡_};
+ghost use Prim.Native.Nat.{min};
+ghost use lib.ListN.{length};
+ghost use Rattle.rules.specs.Calls.{Open, Put, Get, Deliver, Drain};
+ghost use Rattle.forkcanyon.specs.Host.{replyOf, left, host};
+ghost use Rattle.numbers.specs.Five.{fiveOf};
+ghost use Rattle.forkcanyon.specs.Told.{Replied};
+use numbers::Five;
+
+pub struct Reply {}
+
+impl Reply {
+    pub const BYTES: usize = 12;
+
+    pub const WRONG_SIZE: u32 = 1;
+}
+
+// Code, key, site, zero, clock (2), two zeros, value (4).
+fn write_reply(reply: &mut [u8], code: u8, key: u8, site: u8, clock: u16, value: u32)
+    requires { ⌜ length (now reply) ≡ 12 ⌝ }
+    ensures { λ _. ⌜ now (reply .exit) ≡ replyOf (record { code = code; key = key; site = site; clock = clock; value = value }) ⌝ }
+{
+    reply[0] = code;
+    reply[1] = key;
+    reply[2] = site;
+    reply[3] = 0;
+    reply[4] = (clock / 256) as u8;
+    reply[5] = (clock % 256) as u8;
+    reply[6] = 0;
+    reply[7] = 0;
+    reply[8] = (value / 16777216) as u8;
+    reply[9] = (value / 65536 % 256) as u8;
+    reply[10] = (value / 256 % 256) as u8;
+    reply[11] = (value % 256) as u8;
+}
+
+// The reply is written whole, whatever the answer, and its code comes back.
+fn answer(reply: &mut [u8], x: Five) -> u32
+    requires { ⌜ length (now reply) ≡ 12 ⌝ }
+    ensures { λ r. ⌜ Replied r (now (reply .exit)) (fiveOf x) ⌝ }
+{
+    write_reply(reply, x.code, x.key, x.site, x.clock, x.value);
+    x.code as u32
+}
+
+#[no_mangle]
+pub extern "C" fn fc_open(sites: u64, keys: u64, table: &mut [u8], reply: &mut [u8]) -> u32
+    ensures { λ r. ⌜ left r (now (table .exit)) (now (reply .exit)) ≡ host (now (table .entry)) (now (reply .entry)) (Open sites keys) ⌝ }
+{
+    if reply.len() != Reply::BYTES {
+        return Reply::WRONG_SIZE;
+    }
+    let a = table::open(table, sites as usize, keys as usize);
+    answer(reply, numbers::numbers_of(a))
+}
+
+#[no_mangle]
+pub extern "C" fn fc_put(site: u64, key: u64, value: u32, table: &mut [u8], reply: &mut [u8]) -> u32
+    ensures { λ r. ⌜ left r (now (table .exit)) (now (reply .exit)) ≡ host (now (table .entry)) (now (reply .entry)) (Put site key value) ⌝ }
+{
+    if reply.len() != Reply::BYTES {
+        return Reply::WRONG_SIZE;
+    }
+    let a = table::put(table, site as usize, key as usize, value);
+    answer(reply, numbers::numbers_of(a))
+}
+
+#[no_mangle]
+pub extern "C" fn fc_get(site: u64, key: u64, table: &mut [u8], reply: &mut [u8]) -> u32
+    ensures { λ r. ⌜ left r (now (table .exit)) (now (reply .exit)) ≡ host (now (table .entry)) (now (reply .entry)) (Get site key) ⌝ }
+{
+    if reply.len() != Reply::BYTES {
+        return Reply::WRONG_SIZE;
+    }
+    let a = table::get(table, site as usize, key as usize);
+    answer(reply, numbers::numbers_of(a))
+}
+
+#[no_mangle]
+pub extern "C" fn fc_deliver(site: u64, origin: u64, table: &mut [u8], reply: &mut [u8]) -> u32
+    ensures { λ r. ⌜ left r (now (table .exit)) (now (reply .exit)) ≡ host (now (table .entry)) (now (reply .entry)) (Deliver site origin) ⌝ }
+{
+    if reply.len() != Reply::BYTES {
+        return Reply::WRONG_SIZE;
+    }
+    let a = table::deliver(table, site as usize, origin as usize);
+    answer(reply, numbers::numbers_of(a))
+}
+
+// A budget above 65,535 counts as 65,535.
+fn tries_allowed(budget: u64) -> u16
+    ensures { λ r. ⌜ r ≡ min budget 65535 ⌝ }
+{
+    if budget < 65535 { budget as u16 } else { 65535 }
+}
+
+#[no_mangle]
+pub extern "C" fn fc_drain(site: u64, budget: u64, table: &mut [u8], reply: &mut [u8]) -> u32
+    ensures { λ r. ⌜ left r (now (table .exit)) (now (reply .exit)) ≡ host (now (table .entry)) (now (reply .entry)) (Drain site (min budget 65535)) ⌝ }
+{
+    if reply.len() != Reply::BYTES {
+        return Reply::WRONG_SIZE;
+    }
+    let a = drain::drain(table, site as usize, tries_allowed(budget));
+    answer(reply, numbers::numbers_of(a))
+}
