@@ -1,0 +1,63 @@
+// Document 01's cases that are not starred. Each answer is a line: the case, then the answer's five numbers.
+use libc::STDOUT_FILENO;
+use schedule::Schedule;
+use table::Answer;
+
+fn say(case: u32, a: Answer) {
+    let mut text = [0u8; Schedule::LINE];
+    let end = schedule::write_answer(&mut text, case, a);
+    io::write_all(STDOUT_FILENO, &text[..end]);
+}
+
+// 2: (8, 64) is accepted; (0, 1), (9, 1) and (1, 65) answer 3.
+fn counts(t: &mut [u8]) {
+    say(2, table::open(t, 8, 64));
+    say(2, table::open(t, 0, 1));
+    say(2, table::open(t, 9, 1));
+    say(2, table::open(t, 1, 65));
+}
+
+// 8: with one site, 17 puts in a row are accepted.
+fn alone(t: &mut [u8]) {
+    table::open(t, 1, 2);
+    let mut i: usize = 0;
+    while i < 17 {
+        say(8, table::put(t, 0, 0, 5));
+        i += 1;
+    }
+}
+
+// 14: step 6 of the schedule with a budget.
+fn budget(t: &mut [u8], b: u16) {
+    table::open(t, 3, 4);
+    table::put(t, 0, 1, 7);
+    table::deliver(t, 1, 0);
+    table::get(t, 1, 1);
+    table::put(t, 1, 2, 9);
+    table::deliver(t, 2, 1);
+    say(14, drain::drain(t, 2, b));
+}
+
+// 16: a buffer or a table that the calls do not take.
+fn calls(t: &mut [u8]) {
+    say(16, table::put(t, 0, 0, 5));
+    say(16, table::get(t, 0, 0));
+    say(16, table::deliver(t, 1, 0));
+    say(16, drain::drain(t, 0, 903));
+}
+
+fn main() {
+    let mut t = [0u8; 15620];
+    counts(&mut t);
+    alone(&mut t);
+    budget(&mut t, 5);
+    budget(&mut t, 6);
+    // 15,619 bytes answers 1
+    let mut short = [0u8; 15619];
+    say(16, table::open(&mut short, 2, 2));
+    calls(&mut short);
+    // byte 0 set to 9 answers 2
+    table::open(&mut t, 2, 2);
+    t[0] = 9;
+    calls(&mut t);
+}

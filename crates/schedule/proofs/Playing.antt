@@ -1,0 +1,56 @@
+-- A step on the bytes of a table is the step on the state that they stand for. Assumes nothing.
+use mathlib.Core.Path.{_≡_, refl, ap, _∙_}
+use mathlib.Core.Bool.{Bool, true, false}
+use mathlib.Core.List.{List}
+use Prim.Native.Nat.{ℕ, _^_, _<_}
+use native.Mathlib.Omega.{arith}
+use lib.Dec.{eqb}
+use lib.ListN.{length, getD, replicate, length-replicate}
+use borrow.Author.Tests.{eq-eqb}
+use Rattle.clock.specs.Map.{if_then_else_}
+use Rattle.clock.proofs.Maps.{choice}
+use Rattle.layout.specs.State.{State, allZero, stateOf}
+use Rattle.layout.specs.Ranges.{Bytes}
+use Rattle.clock.proofs.Cells.{cells-zeros}
+use Rattle.layout.proofs.Zeros.{all-zero}
+use Rattle.layout.proofs.TableTrips.{state-back, state-fits}
+use Rattle.rules.specs.Steps.{Outcome, refused}
+use Rattle.rules.specs.Calls.{Call, Open, Drain, run, Served, serve}
+use Rattle.rules.proofs.Outcomes.{outcome, outcome-is}
+use Rattle.rules.proofs.Fitting.{Sized, put-sized, get-sized, deliver-sized, run-fits}
+use Rattle.schedule.specs.declared.Step.{Step}
+use Rattle.schedule.specs.Step.{callOf, unused-zero, played, played-on}
+
+open-sized : (n k : ℕ) → Sized (Open n k)
+open-sized n k s′ x′ v′ e = let z : _≡_ {A = ℕ} 0 1 = cc in omega arith
+
+drain-sized : (s b : ℕ) → Sized (Drain s b)
+drain-sized s b s′ x′ v′ e = let z : _≡_ {A = ℕ} 0 1 = cc in omega arith
+
+call-sized : (p : Step) → p .value < 256 ^ 4 → Sized (callOf p)
+unfolding callOf
+call-sized p h =
+    choice (eqb (p .operation) 0) Sized (λ e. put-sized (p .site) (p .key) (p .value) h) λ e.
+    choice (eqb (p .operation) 1) Sized (λ e. get-sized (p .site) (p .key)) λ e.
+    choice (eqb (p .operation) 2) Sized (λ e. deliver-sized (p .site) (p .origin)) λ e.
+    drain-sized (p .site) 903
+
+module _ (t : List ℕ) (long : length t ≡ 15620) (bytes : Bytes t) where
+  open-is : (n k : ℕ) → outcome (serve t (Open n k)) ≡ run (stateOf t) (Open n k)
+  open-is n k = outcome-is t (Open n k) long bytes (open-sized n k)
+
+  pub played-is : (p : Step) → p .value < 256 ^ 4 → outcome (played-on t p) ≡ played (stateOf t) p
+  unfolding played-on played
+  played-is p h = go (unused-zero p)
+    where
+      go : (b : Bool) → outcome (if b then serve t (callOf p) else record { answer = refused 12; bytes = t }) ≡ (if b then run (stateOf t) (callOf p) else record { answer = refused 12; after = stateOf t })
+      go true = outcome-is t (callOf p) long bytes (call-sized p h)
+      go false = refl
+
+-- on bytes that are all zero
+pub open-zeros : (n k : ℕ) → outcome (serve (replicate 15620 0) (Open n k)) ≡ run allZero (Open n k)
+unfolding Bytes
+open-zeros n k =
+    let z : (i : ℕ) → getD {A = ℕ} (replicate 15620 0) i 0 ≡ 0 = λ i. ap (λ (g : ℕ → ℕ). g i) (cells-zeros 15620) in
+    open-is (replicate 15620 0) (length-replicate {A = ℕ} 15620 0) (λ i. omega (arith, z i)) n k
+    ∙ ap (λ (S : State). run S (Open n k)) (all-zero (replicate 15620 0) z)
