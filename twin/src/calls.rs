@@ -1,0 +1,101 @@
+//! Open, put, get and deliver on a buffer of the right length; refusals stand in the order of their codes.
+
+use crate::answer::{Answer, Code, Outcome};
+use crate::sound::is_sound;
+use crate::table::{join, Record, Table, KEYS, PLACES, SITES};
+
+pub fn open(table: &mut Table, sites: u64, keys: u64) -> Outcome {
+    if !(1..=SITES as u64).contains(&sites) || !(1..=KEYS as u64).contains(&keys) {
+        return Err(Answer::refused(Code::Counts));
+    }
+    table.open(sites as u8, keys as u8);
+    Ok(Answer::accepted(0, 0, 0, 0))
+}
+
+pub fn put(table: &mut Table, site: u64, key: u64, value: u32) -> Outcome {
+    demand_sound(table)?;
+    let site = named_site(table, site)?;
+    let key = named_key(table, key)?;
+    let Some(clock) = table.applied(site, site).checked_add(1) else {
+        return Err(Answer::refused(Code::ClocksSpent));
+    };
+    // "Some site has applied 16 fewer of s's puts than s": clock is one past s's own count.
+    if (0..table.sites()).any(|other| usize::from(clock - table.applied(other, site)) > PLACES) {
+        return Err(Answer::refused(Code::NoRoom));
+    }
+    // The dependency row goes into the update as it was before the put.
+    let mut depends = table.depends_row(site);
+    table.set_update(site, Record { value, name: key as u8, clock, depends });
+    table.set_entry(site, key, Record { value, name: site as u8, clock, depends: [0; SITES] });
+    table.set_applied(site, site, clock);
+    depends[site] = depends[site].max(clock);
+    table.set_depends_row(site, depends);
+    Ok(Answer::accepted(key as u8, site as u8, clock, value))
+}
+
+pub fn get(table: &mut Table, site: u64, key: u64) -> Outcome {
+    demand_sound(table)?;
+    let site = named_site(table, site)?;
+    let key = named_key(table, key)?;
+    let entry = table.entry(site, key);
+    if entry.clock == 0 {
+        return Ok(Answer::accepted(key as u8, 0, 0, 0));
+    }
+    let origin = usize::from(entry.name);
+    let mut depends = join(table.depends_row(site), entry.depends);
+    depends[origin] = depends[origin].max(entry.clock);
+    table.set_depends_row(site, depends);
+    Ok(Answer::accepted(key as u8, entry.name, entry.clock, entry.value))
+}
+
+pub fn deliver(table: &mut Table, site: u64, origin: u64) -> Outcome {
+    demand_sound(table)?;
+    let site = named_site(table, site)?;
+    let origin = named_site(table, origin)?;
+    if site == origin {
+        return Err(Answer::refused(Code::SameSite));
+    }
+    try_delivery(table, site, origin)
+}
+
+/// One delivery on a sound table between two of its sites.
+pub fn try_delivery(table: &mut Table, site: usize, origin: usize) -> Outcome {
+    let applied = table.applied_row(site);
+    if applied[origin] == table.applied(origin, origin) {
+        return Err(Answer::refused(Code::NothingNew));
+    }
+    let clock = applied[origin] + 1;
+    let update = table.update(origin, clock);
+    if let Some(column) = (0..SITES).find(|&column| update.depends[column] > applied[column]) {
+        let waits = Answer::refused(Code::CauseMissing);
+        return Err(Answer { site: column as u8, clock: update.depends[column], ..waits });
+    }
+    table.set_entry(site, update.name.into(), Record { name: origin as u8, clock, ..update });
+    table.set_applied(site, origin, clock);
+    Ok(Answer::accepted(update.name, origin as u8, clock, update.value))
+}
+
+pub fn demand_sound(table: &Table) -> Result<(), Answer> {
+    if is_sound(table) {
+        Ok(())
+    } else {
+        Err(Answer::refused(Code::Unsound))
+    }
+}
+
+pub fn named_site(table: &Table, site: u64) -> Result<usize, Answer> {
+    below(site, table.sites(), Code::Site)
+}
+
+fn named_key(table: &Table, key: u64) -> Result<usize, Answer> {
+    below(key, table.keys(), Code::Key)
+}
+
+/// "A host number too large for its field meets the refusal of that field."
+fn below(number: u64, limit: usize, code: Code) -> Result<usize, Answer> {
+    if number < limit as u64 {
+        Ok(number as usize)
+    } else {
+        Err(Answer::refused(code))
+    }
+}
