@@ -1,0 +1,66 @@
+# make test: the gate
+# make run: document 01's schedule, on the proved program
+# make lib: the proved archive and its header, build/libforkcanyon.a and build/forkcanyon.h
+# make install PREFIX=dir: both there, with a pkg-config file
+# make story: a backup scan seen from far away, here and in a plain replica
+# make play FILE=x.sched: a schedule written as text, beside its answers
+# make draw FILE=x.sched: the same as a picture, build/x.svg
+# make soak SECONDS=n: random schedules and random calls, half of the time each
+# make bench: the library against the second program, in turns
+# make times: the proving seconds of each crate, from nothing
+.PHONY: help test run lib install story play draw soak bench times
+
+PREFIX ?= /usr/local
+SECONDS ?= 600
+CFLAGS ?= -O2
+STRICT := -std=c11 -Wall -Wextra -Werror -pedantic
+SOURCES := crates.txt $(shell find crates -type f)
+ARCHIVE := target/staticlib/libforkcanyon.a
+
+help:
+	@grep -hE '^# make ' Makefile | sed 's/^# //'
+
+test:
+	@.ci/run
+
+$(ARCHIVE): $(SOURCES)
+	rt staticlib forkcanyon
+	@touch $@
+
+target/bin/run_schedule: $(SOURCES)
+	rt check run_schedule
+	@touch $@
+
+run: target/bin/run_schedule
+	@tools/sched encode docs/scope.sched | target/bin/run_schedule
+
+lib: $(ARCHIVE)
+	@mkdir -p build
+	@install -m 644 $(ARCHIVE) include/forkcanyon.h build
+
+install: lib
+	install -d $(DESTDIR)$(PREFIX)/include $(DESTDIR)$(PREFIX)/lib/pkgconfig
+	install -m 644 build/forkcanyon.h $(DESTDIR)$(PREFIX)/include
+	install -m 644 build/libforkcanyon.a $(DESTDIR)$(PREFIX)/lib
+	sed 's|@PREFIX@|$(PREFIX)|' include/forkcanyon.pc.in >$(DESTDIR)$(PREFIX)/lib/pkgconfig/forkcanyon.pc
+
+story: lib
+	@$(CC) $(STRICT) $(CFLAGS) -Ibuild examples/backup_scan.c build/libforkcanyon.a -o build/backup_scan
+	@build/backup_scan
+
+play: target/bin/run_schedule
+	@tools/sched play "$(FILE)"
+
+draw: target/bin/run_schedule
+	@mkdir -p build
+	@tools/spacetime "$(FILE)" >build/$(basename $(notdir $(FILE))).svg
+
+soak:
+	@SECONDS_TO_RUN=$$(($(SECONDS) / 2)) tests/schedules/run
+	@SECONDS_TO_RUN=$$(($(SECONDS) / 2)) tests/host/run
+
+bench:
+	@bench/run
+
+times:
+	@tools/times

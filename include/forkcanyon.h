@@ -1,0 +1,175 @@
+/*
+ * Forkcanyon: a causally consistent replicated table in a lent buffer.
+ *
+ * THE TABLE
+ *
+ * One buffer of FC_TABLE_BYTES holds the replicas of 1 to 8 sites over 1 to 64 keys, how many updates
+ * of each origin each site has applied, what each site depends on, and the updates still under way.
+ * A put at a site is stored there at once and becomes an update for every other site. A delivery
+ * carries the next update of one origin to one site, and is accepted only when the site has applied
+ * everything that update depends on: all that its origin had put or got before. So whoever reads a
+ * value at a site also finds there what the writer of that value had seen, or what was put over it.
+ *
+ * The library keeps nothing between calls: no heap, no globals, no files, no clock. What there is to
+ * remember is in the table, and the table may be copied, moved or saved between calls like any bytes.
+ * Calls on different tables may run at the same time; calls on one table must not.
+ *
+ * A session in five lines:
+ *
+ *     uint8_t table[FC_TABLE_BYTES], reply[FC_REPLY_BYTES];
+ *     fc_open(2, 4, table, sizeof table, reply, sizeof reply);
+ *     fc_put(0, 1, 7, table, sizeof table, reply, sizeof reply);
+ *     fc_deliver(1, 0, table, sizeof table, reply, sizeof reply);
+ *     if (fc_get(1, 1, table, sizeof table, reply, sizeof reply) == FC_OK) use(fc_read(reply).value);
+ *
+ * WHAT THE CALLER OWES
+ *
+ * - table points to table_len bytes and reply to reply_len bytes, lent for the length of the call.
+ * - The two do not overlap.
+ * - Neither pointer is NULL; a length of 0 may come with any pointer that is not NULL.
+ *
+ * Nothing else: any numbers, any lengths and any bytes in the buffers are met with an answer.
+ *
+ * WHAT EVERY CALL DOES
+ *
+ * - It returns the code, and writes the whole reply: the code again in its first byte, then the other
+ *   numbers of the answer. See fc_read() below for where they stand.
+ * - A refused call (any code but FC_OK) leaves every byte of the table as it was, FC_BUDGET alone
+ *   excepted; the other numbers of its reply are 0, FC_WAITS and FC_BUDGET excepted.
+ * - If reply_len is not FC_REPLY_BYTES, it writes neither buffer and returns FC_SIZE.
+ * - Where several refusals apply, the one with the lowest number is answered.
+ * - Sites, origins and keys count from 0. A number too large for its place in the table, up to
+ *   2^64 - 1, is refused as out of range; none is ever cut short.
+ */
+#ifndef FORKCANYON_H
+#define FORKCANYON_H
+
+#include <stddef.h>
+#include <stdint.h>
+
+#ifdef __cplusplus
+extern "C" {
+#endif
+
+#define FC_TABLE_BYTES 15620 /* a table buffer, exactly */
+#define FC_REPLY_BYTES 12    /* a reply buffer, exactly */
+#define FC_SITES 8           /* the most sites of a table */
+#define FC_KEYS 64           /* the most keys of a table */
+#define FC_PLACES 16         /* how many updates of one origin may be under way */
+#define FC_CLOCKS 65535      /* how many puts one site may make */
+#define FC_ENOUGH 903        /* a budget with which fc_drain never answers FC_BUDGET */
+
+/*
+ * The codes, in the order in which they are asked. applied(s, o) is how many updates of origin o
+ * site s has applied; applied(s, s) is how many puts s has made. n and k are the table's counts.
+ */
+enum fc_code {
+    FC_OK = 0,      /* accepted */
+    FC_SIZE = 1,    /* table_len is not FC_TABLE_BYTES, or reply_len is not FC_REPLY_BYTES */
+    FC_UNSOUND = 2, /* the table is not sound, see fc_open(); not asked by fc_open */
+    FC_COUNTS = 3,  /* fc_open: sites is not 1 to 8, or keys is not 1 to 64 */
+    FC_SITE = 4,    /* a named site or origin is not below n */
+    FC_SAME = 5,    /* fc_deliver: site and origin are the same */
+    FC_KEY = 6,     /* key is not below k */
+    FC_SPENT = 7,   /* fc_put: applied(site, site) is 65,535; the site can put no more */
+    FC_ROOM = 8,    /* fc_put: some site has applied 16 fewer of this site's puts than it has made */
+    FC_NONE = 9,    /* fc_deliver: applied(site, origin) equals applied(origin, origin) */
+    FC_WAITS = 10,  /* fc_deliver: the site lacks a cause of the update; the reply names it */
+    FC_BUDGET = 11, /* fc_drain: the budget was spent with a try due; what was delivered stays */
+    FC_UNUSED = 12  /* only in a schedule: a step with a field set that it does not use */
+};
+
+/*
+ * Opens a table: all bytes 0, then the two counts. Opening again starts a new history.
+ *
+ * FC_OK: the other numbers of the reply are 0. Refusals: FC_SIZE, FC_COUNTS.
+ *
+ * A table that was opened and then changed only by these calls is sound. Every call but fc_open asks
+ * for these facts first, so a damaged table is refused with FC_UNSOUND if one of them fails:
+ * - n is 1 to 8, k is 1 to 64, and bytes 2 and 3 are 0;
+ * - for sites s and o below n, applied(s, o) is at most applied(o, o), and at most 16 below it;
+ * - each entry of a site s below n and a key below k is all 0 (never written), or names an origin
+ *   below n and a clock from 1 to applied(s, origin);
+ * - each update that some site below n has not applied yet stands in its place, with its clock and
+ *   a key below k.
+ * Every accepted call on a sound table leaves a sound one, and so does a drain that answers FC_BUDGET.
+ */
+uint32_t fc_open(uint64_t sites, uint64_t keys,
+                 uint8_t *table, size_t table_len, uint8_t *reply, size_t reply_len);
+
+/*
+ * Writes value under key at site, and makes it the site's next update.
+ *
+ * FC_OK: the reply holds key, site, the put's clock (1 for a site's first put, then 2, ..) and value.
+ * The update depends on all that the site had put or got before.
+ * Refusals: FC_SIZE, FC_UNSOUND, FC_SITE, FC_KEY, FC_SPENT, FC_ROOM.
+ */
+uint32_t fc_put(uint64_t site, uint64_t key, uint32_t value,
+                uint8_t *table, size_t table_len, uint8_t *reply, size_t reply_len);
+
+/*
+ * Reads key at site. Not a pure read: later puts of the site depend on the put that was read and on
+ * all that one depended on, so the table's dependency row of the site may change.
+ *
+ * FC_OK: the reply holds key, and the origin (as site), clock and value of the put it reads. For a
+ * key never written at this site these are 0 and the table keeps all bytes; clock 0 is the mark,
+ * since 0 is also a site.
+ * Refusals: FC_SIZE, FC_UNSOUND, FC_SITE, FC_KEY.
+ */
+uint32_t fc_get(uint64_t site, uint64_t key,
+                uint8_t *table, size_t table_len, uint8_t *reply, size_t reply_len);
+
+/*
+ * Applies at site the next update of origin, the one with clock applied(site, origin) + 1.
+ *
+ * FC_OK: the reply holds the update's key, origin (as site), clock and value, and the site now holds
+ * it. What the site depends on does not change until it gets the key.
+ * FC_WAITS: the reply's site and clock name the lowest site of which a cause is missing, and its
+ * clock: deliver that site's updates up to this clock first.
+ * Refusals: FC_SIZE, FC_UNSOUND, FC_SITE, FC_SAME, FC_NONE, FC_WAITS.
+ */
+uint32_t fc_deliver(uint64_t site, uint64_t origin,
+                    uint8_t *table, size_t table_len, uint8_t *reply, size_t reply_len);
+
+/*
+ * Delivers to site all that can be delivered, with at most budget tries; a budget above 65,535 counts
+ * as 65,535. Passes over the other sites in order; at each it delivers until one delivery is refused;
+ * ends after a pass that delivered nothing. A refused delivery is a try too.
+ *
+ * FC_OK: the reply holds the deliveries made (as clock) and the tries made (as value). In a table
+ * that was opened and then changed only by these calls, the site now holds every accepted put.
+ * FC_BUDGET: the same two numbers, as far as it came; what was delivered stays.
+ * Refusals: FC_SIZE, FC_UNSOUND, FC_SITE, FC_BUDGET. FC_ENOUGH is always enough.
+ */
+uint32_t fc_drain(uint64_t site, uint64_t budget,
+                  uint8_t *table, size_t table_len, uint8_t *reply, size_t reply_len);
+
+/* The five numbers of a reply. For fc_drain, clock holds the deliveries and value the tries. */
+struct fc_answer {
+    uint8_t code;
+    uint8_t key;
+    uint8_t site;
+    uint16_t clock;
+    uint32_t value;
+};
+
+/*
+ * Reads the FC_REPLY_BYTES of a reply: code (1 byte), key (1), site (1), zero (1), clock (2), zeros
+ * (2), value (4), most significant byte first.
+ */
+static inline struct fc_answer fc_read(const uint8_t *reply)
+{
+    struct fc_answer answer;
+    answer.code = reply[0];
+    answer.key = reply[1];
+    answer.site = reply[2];
+    answer.clock = (uint16_t)(reply[4] << 8 | reply[5]);
+    answer.value = (uint32_t)reply[8] << 24 | (uint32_t)reply[9] << 16 | (uint32_t)reply[10] << 8 | reply[11];
+    return answer;
+}
+
+#ifdef __cplusplus
+}
+#endif
+
+#endif

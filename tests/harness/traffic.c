@@ -1,0 +1,87 @@
+#include "traffic.h"
+
+/* Any size of number, some of which would look small if they were cut to 8, 16 or 32 bits. */
+static uint64_t wild_number(struct rng *rng)
+{
+    static const uint64_t sizes[] = {0, 1ull << 8, 1ull << 16, 1ull << 32, 1ull << 63};
+    switch (rng_below(rng, 4)) {
+    case 0:
+        return sizes[rng_below(rng, 5)] + rng_below(rng, 10);
+    case 1:
+        return sizes[rng_below(rng, 5)] - 1 - rng_below(rng, 3);
+    case 2:
+        return rng_below(rng, 70);
+    default:
+        return rng_bits(rng) >> rng_below(rng, 64);
+    }
+}
+
+static uint64_t name(struct rng *rng, const struct traffic *traffic, unsigned limit)
+{
+    return rng_chance(rng, traffic->wild) ? wild_number(rng) : rng_below(rng, limit);
+}
+
+/* Few tries, about as many as are always enough, or any number. */
+static uint64_t budget(struct rng *rng)
+{
+    switch (rng_below(rng, 4)) {
+    case 0:
+        return rng_below(rng, 30);
+    case 1:
+        return FC_ENOUGH - 1 + rng_below(rng, 3);
+    case 2:
+        return rng_below(rng, 300);
+    default:
+        return wild_number(rng);
+    }
+}
+
+struct traffic some_traffic(struct rng *rng, unsigned sites, unsigned keys, unsigned wild)
+{
+    struct traffic traffic = {.sites = sites, .keys = keys, .wild = wild};
+    for (int kind = PUT; kind < KINDS; kind++)
+        traffic.weights[kind] = 1 + (unsigned)rng_below(rng, 8);
+    traffic.weights[DRAIN] = (unsigned)rng_below(rng, 2);
+    traffic.slow = rng_bits(rng) & rng_bits(rng);
+    return traffic;
+}
+
+static uint64_t origin_for(struct rng *rng, const struct traffic *traffic, uint64_t site)
+{
+    uint64_t origin = name(rng, traffic, traffic->sites);
+    for (int tries = 0; tries < 4; tries++) {
+        bool slow = site < FC_SITES && origin < FC_SITES && traffic->slow >> (8 * site + origin) & 1;
+        if (origin != site && !(slow && rng_chance(rng, 95)))
+            break;
+        origin = name(rng, traffic, traffic->sites);
+    }
+    return origin;
+}
+
+struct call some_call(struct rng *rng, const struct traffic *traffic)
+{
+    unsigned all = 0;
+    for (int kind = 0; kind < KINDS; kind++)
+        all += traffic->weights[kind];
+    unsigned left = (unsigned)rng_below(rng, all);
+    struct call call = {.kind = OPEN};
+    while (left >= traffic->weights[call.kind])
+        left -= traffic->weights[call.kind++];
+
+    call.first = call.kind == OPEN ? wild_number(rng) : name(rng, traffic, traffic->sites);
+    switch (call.kind) {
+    case OPEN:
+        call.second = wild_number(rng);
+        break;
+    case DELIVER:
+        call.second = origin_for(rng, traffic, call.first);
+        break;
+    case DRAIN:
+        call.second = budget(rng);
+        break;
+    default:
+        call.second = name(rng, traffic, traffic->keys);
+        call.value = call.kind == PUT ? (uint32_t)rng_bits(rng) : 0;
+    }
+    return call;
+}

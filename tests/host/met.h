@@ -1,0 +1,21 @@
+/* Which codes each call has answered, and whether all that it can answer were met. */
+#ifndef MET_H
+#define MET_H
+
+#include "calls.h"
+
+#include <stdbool.h>
+
+enum { CODES = 13 }; /* 12, a schedule's, stands for anything beyond 11 too: no call may answer it */
+
+struct met {
+    uint64_t codes[KINDS][CODES];
+    uint64_t never_written, joined, delivered, stopped_late;
+};
+
+/* Notes a call whose reply is whole; changed: whether the table did. */
+void met_note(struct met *met, const struct call *call, uint32_t code, const uint8_t *reply, bool changed);
+bool met_all(const struct met *met);
+void met_print(const struct met *met);
+
+#endif

@@ -1,0 +1,53 @@
+"""The archive needs no heap, no writable global and no symbol of others but the few named here."""
+
+import subprocess
+import sys
+
+EXPORTED = {"fc_open", "fc_put", "fc_get", "fc_deliver", "fc_drain"}
+# The compiler turns copies, fills and comparisons into these; every C library has them, and none
+# of them allocates or keeps anything.
+EMITTED = {"memcpy", "memmove", "memset", "memcmp", "bcmp"}
+WRITABLE = (".data", ".bss", ".tdata", ".tbss", ".init_array", ".fini_array")
+
+
+def lines(*command):
+    return subprocess.run(command, capture_output=True, text=True, check=True).stdout.splitlines()
+
+
+def some(names):
+    names = sorted(names)
+    return ", ".join(names[:8]) + (f" and {len(names) - 8} more" if len(names) > 8 else "") or "none"
+
+
+def main():
+    archive = sys.argv[1]
+    symbols = [line.split()[-2:] for line in lines("nm", archive) if len(line.split()) >= 2]
+    undefined = {name for kind, name in symbols if kind in "Uwv"}
+    defined = {name for kind, name in symbols if kind not in "Uwv"}
+    exported = {name for kind, name in symbols if kind in "TW"}
+    globals_ = {name for kind, name in symbols if kind in "BbDdCGgSsu"}
+    rows = [line.split() for line in lines("size", "-A", archive)]
+    sections = [(row[0], int(row[1])) for row in rows if len(row) == 3 and row[1].isdigit()]
+    written = [
+        name
+        for name, size in sections
+        if size and name.startswith(WRITABLE) and not name.startswith(".data.rel.ro")
+    ]
+    foreign = undefined - defined
+
+    print(f"symbols: exported {some(exported)}")
+    print(f"symbols: of others {some(foreign)}")
+    print(f"symbols: code {sum(size for name, size in sections if name.startswith('.text'))} bytes")
+    faults = []
+    if not EXPORTED <= exported:
+        faults.append(f"not exported: {some(EXPORTED - exported)}")
+    if not foreign <= EMITTED:
+        faults.append(f"needs symbols of others: {some(foreign - EMITTED)}")
+    if globals_ or written:
+        faults.append(f"writable globals: {some(globals_)}; sections: {some(written)}")
+    for fault in faults:
+        print(f"symbols: FAILED: {fault}")
+    return bool(faults)
+
+
+sys.exit(main())

@@ -1,0 +1,95 @@
+"""tools/sched: text to bytes and back, and a line number in every error."""
+
+import random
+import unittest
+
+from support import ROOT, run_tool
+from schedule_bytes import MOST_STEPS, Step, schedule_bytes, step_bytes, step_of
+from schedule_text import BadLine, schedule_of, text_of
+
+SCOPE = bytes.fromhex(
+    "0304 000100000007 880000000000 480100000000 080200000009 910000000000 D00000000000 500100000000"
+)
+
+
+class RoundTrips(unittest.TestCase):
+    def test_the_documents_schedule(self):
+        text = (ROOT / "docs" / "scope.sched").read_text()
+        self.assertEqual(schedule_of(text), SCOPE)
+        self.assertEqual(schedule_of(text_of(SCOPE)), SCOPE)
+
+    def test_any_bytes_come_back(self):
+        rng = random.Random(1)
+        for length in range(200):
+            data = rng.randbytes(length)
+            self.assertEqual(schedule_of(text_of(data)), data)
+
+    def test_any_step_comes_back(self):
+        rng = random.Random(2)
+        for _ in range(500):
+            data = rng.randbytes(6)
+            self.assertEqual(step_bytes(step_of(data)), data)
+
+    def test_text_comes_back(self):
+        text = "sites 8 keys 64\nput 7 63 4294967295\nget 6 0 origin=2 value=9\ndeliver 0 5\ndrain 3\nbytes 48 01\n"
+        self.assertEqual(text_of(schedule_of(text)), text)
+
+    def test_more_than_is_read_comes_back(self):
+        data = schedule_bytes(1, 1, [Step("get")] * MOST_STEPS) + bytes(range(13))
+        self.assertEqual(schedule_of(text_of(data)), data)
+
+
+class Errors(unittest.TestCase):
+    def assert_line(self, line, why, text):
+        with self.assertRaises(BadLine) as caught:
+            schedule_of(text)
+        self.assertEqual(caught.exception.line, line)
+        self.assertIn(why, str(caught.exception))
+
+    def test_each_names_its_line(self):
+        top = "# a comment\nsites 3 keys 4\n\n"
+        self.assert_line(4, "put takes site key value", top + "put 0 1")
+        self.assert_line(5, "'push' is none of", top + "put 0 1 7 # fine\npush 1")
+        self.assert_line(4, "site 8 is above 7", top + "drain 8")
+        self.assert_line(4, "key 256 is above 255", top + "get 0 256")
+        self.assert_line(4, "value 4294967296 is above", top + "put 0 0 4294967296")
+        self.assert_line(4, "origin is a number, not '-1'", top + "deliver 0 -1")
+        self.assert_line(4, "'site=' is not a field", top + "drain 0 site=1")
+        self.assert_line(4, "'sites' is none of", top + "sites 3 keys 4")
+        self.assert_line(4, "two hexadecimal digits", top + "bytes 0x1")
+        self.assert_line(4, "are a step", top + "bytes 01 02 03 04 05 06")
+        self.assert_line(5, "nothing follows", top + "bytes 01\ndrain 0")
+        self.assert_line(1, "begins with", "put 0 1 7")
+        self.assert_line(2, "begins with", "# nothing")
+        self.assert_line(1, "sites 256 is above 255", "sites 256 keys 1")
+        self.assert_line(1, "are a header", "bytes 01 02")
+        self.assert_line(MOST_STEPS + 2, "only 10922", "sites 1 keys 1\n" + "get 0 0\n" * (MOST_STEPS + 1))
+
+
+class Tool(unittest.TestCase):
+    def test_encode_and_decode(self):
+        scope = str(ROOT / "docs" / "scope.sched")
+        self.assertEqual(run_tool("sched", "encode", scope).stdout, SCOPE)
+        self.assertEqual(run_tool("sched", "decode", data=SCOPE).stdout.decode(), text_of(SCOPE))
+
+    def test_an_error_ends_it(self):
+        run = run_tool("sched", "encode", data=b"sites 3 keys 4\nput 0\n")
+        self.assertEqual((run.returncode, run.stdout), (1, b""))
+        self.assertEqual(run.stderr, b"standard input: line 2: put takes site key value\n")
+
+    def test_play_sets_text_beside_answers(self):
+        lines = run_tool("sched", "play", str(ROOT / "docs" / "scope.sched")).stdout.decode().splitlines()
+        self.assertEqual(len(lines), 9)
+        self.assertEqual(lines[5].split(None, 9)[:9], "deliver 2 1 5 10 0 0 1 0".split())
+        self.assertTrue(lines[5].endswith("refused: waits for site 0, clock 1"))
+        self.assertEqual(lines[8].strip(), "end 7")
+
+    def test_play_says_every_refusal(self):
+        refused = b"put 2 0 1\nget 0 1\ndeliver 0 0\ndeliver 0 1\ndrain 0 key=1\n"
+        played = run_tool("sched", "play", data=b"sites 2 keys 1\n" + b"put 0 0 1\n" * 17 + refused)
+        self.assertEqual(played.stderr, b"")
+        self.assertEqual(played.stdout.count(b"refused: "), 6)
+        self.assertEqual(run_tool("sched", "play", data=b"sites 9 keys 1\n").stdout.count(b"refused: "), 1)
+
+
+unittest.main()
