@@ -1,12 +1,11 @@
 -- What a test says, put together from what its parts say. Assumes nothing.
-use mathlib.Core.Path.{_≡_, sym, _∙_}
+use mathlib.Core.Path.{_≡_}
 use mathlib.Core.Bool.{Bool, true, false, not, _&&_, _||_}
 use mathlib.Core.Logic.{_⊎_, inl, inr, ⊎-elim, _≢_, _↔_}
 use Prim.Native.Nat.{ℕ, _≤_, _<_}
 use lib.Dec.{eqb, ltb, leb}
 use borrow.Author.Tests.{eqb-true, eqb-false, eq-eqb, ne-eqb, ltb-true, ltb-false, lt-ltb, le-ltb, leb-true, leb-false, le-leb, lt-leb, not-false}
 use Rattle.clock.specs.Map.{all, any}
-use Rattle.clock.proofs.Maps.{both, true-or-false}
 use Rattle.clock.proofs.Below.{and-split, and-both, or-split, or-inl, or-inr, or-neither, all-true, all-intro, any-false, any-none}
 
 -- the test passes exactly when P
@@ -52,7 +51,3 @@ denies-or {a} {b} p q = ((λ e. let r = or-neither a b e in (p .0 (r .0), q .0 (
 
 pub denies-any : (p : ℕ → Bool) (P : ℕ → Type 0) (m : ℕ) → ((i : ℕ) → Denies (p i) (P i)) → Denies (any m p) ((i : ℕ) → i < m → P i)
 denies-any p P m f = ((λ e i h. f i .0 (any-false p m e i h)), λ g. any-none p m (λ i h. f i .1 (g i h)))
-
--- two tests that pass together are the same
-pub same-test : {a b : Bool} → (a ≡ true → b ≡ true) → (b ≡ true → a ≡ true) → a ≡ b
-same-test {a} {b} f g = ⊎-elim (λ e. e ∙ sym (f e)) (λ e. ⊎-elim (λ k. both (g k) e) (λ k. e ∙ sym k) (true-or-false b)) (true-or-false a)

@@ -13,7 +13,7 @@ use Rattle.rules.specs.Refusals.{first, open-refusals, put-refusals, get
 use Rattle.rules.specs.Drain.{Drained, drained, drain}
 use Rattle.rules.specs.Calls.{Call, Open, Put, Get, Deliver, Drain, refusals, beside, step, run}
 use Rattle.rules.specs.Theorems.{condition, Clear, needed, Enough, Spent, GivenExactly, AcceptedExactly, SpentExactly, RefusedKeeps, RefusedZeros, LowestMissing, MissingNamed}
-use Rattle.rules.proofs.Ready.{OpenReady, PutReady, GetReady, DeliverReady, DrainReady, open-ready, put-ready, get-ready, deliver-ready, drain-ready}
+use Rattle.rules.proofs.Ready.{OpenReady, DrainReady, open-ready, drain-ready}
 use Rattle.rules.proofs.Given.{first-given, first-clear, ascends, run-cases, run-refused, run-accepted}
 use Rattle.rules.proofs.Draining.{drained-code, tries-within, drained-same, drained-later}
 use Rattle.rules.proofs.Tries.{budget-enough}
@@ -162,15 +162,3 @@ accepted-first S c h = (
 pub open-accepted : (S : State) (n k : ℕ) → (run S (Open n k) .answer .code ≡ 0) ↔ OpenReady n k
 unfolding step refusals
 open-accepted S n k = Iff·trans (accepted-first S (Open n k) refl) (open-ready n k)
-
-pub put-accepted : (S : State) (s x v : ℕ) → (run S (Put s x v) .answer .code ≡ 0) ↔ PutReady S s x
-unfolding step refusals put
-put-accepted S s x v = Iff·trans (accepted-first S (Put s x v) refl) (put-ready S s x)
-
-pub get-accepted : (S : State) (s x : ℕ) → (run S (Get s x) .answer .code ≡ 0) ↔ GetReady S s x
-unfolding step refusals get
-get-accepted S s x = Iff·trans (accepted-first S (Get s x) refl) (get-ready S s x)
-
-pub deliver-accepted : (S : State) (s o : ℕ) → (run S (Deliver s o) .answer .code ≡ 0) ↔ DeliverReady S s o
-unfolding step refusals deliver
-deliver-accepted S s o = Iff·trans (accepted-first S (Deliver s o) refl) (deliver-ready S s o)

@@ -140,10 +140,6 @@ module _ (S : State) (s b : ℕ) where
   pub drained-code : (drained S s b .code ≡ 0) ⊎ ((drained S s b .code ≡ 11) × (drained S s b .tries ≡ b))
   drained-code = ⊎-elim inl (λ q. inr (q .0, omega (arith, q .1))) (counts .code)
 
-  -- each delivery takes a try
-  pub deliveries-tried : length (drained S s b .made) ≤ drained S s b .tries
-  deliveries-tried = omega (arith, counts .tried)
-
 pub tries-within : TriesWithin
 unfolding drain
 tries-within S s b = (omega (arith, counts S s b .within), λ z. ⊎-elim (λ q. absurd (omega (arith, q))) (λ q. q .1) (drained-code S s b))

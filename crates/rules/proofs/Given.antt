@@ -17,12 +17,6 @@ use Rattle.rules.specs.Theorems.{condition, Given, Clear, CodesListed}
 
 -- ## The first condition that holds
 
-pub first-here : (e : ℕ) {t : Bool} (ps : Refusals) → t ≡ true → first ((e, t) ∷ ps) ≡ e
-first-here e ps h = rw h
-
-pub first-next : (e : ℕ) {t : Bool} (ps : Refusals) → t ≡ false → first ((e, t) ∷ ps) ≡ first ps
-first-next e ps h = rw h
-
 -- the first code whose condition holds is e exactly when P; none is 0
 pub record Gives (ps : Refusals) (e : ℕ) (P : Type 0) : Type 0 where
   pub exactly : (first ps ≡ e) ↔ P

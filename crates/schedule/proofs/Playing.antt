@@ -6,18 +6,16 @@ use Prim.Native.Nat.{ℕ, _^_, _<_}
 use native.Mathlib.Omega.{arith}
 use lib.Dec.{eqb}
 use lib.ListN.{length, getD, replicate, length-replicate}
-use borrow.Author.Tests.{eq-eqb}
 use Rattle.clock.specs.Map.{if_then_else_}
 use Rattle.clock.proofs.Maps.{choice}
 use Rattle.layout.specs.State.{State, allZero, stateOf}
 use Rattle.layout.specs.Ranges.{Bytes}
 use Rattle.clock.proofs.Cells.{cells-zeros}
 use Rattle.layout.proofs.Zeros.{all-zero}
-use Rattle.layout.proofs.TableTrips.{state-back, state-fits}
-use Rattle.rules.specs.Steps.{Outcome, refused}
-use Rattle.rules.specs.Calls.{Call, Open, Drain, run, Served, serve}
+use Rattle.rules.specs.Steps.{refused}
+use Rattle.rules.specs.Calls.{Open, Drain, run, serve}
 use Rattle.rules.proofs.Outcomes.{outcome, outcome-is}
-use Rattle.rules.proofs.Fitting.{Sized, put-sized, get-sized, deliver-sized, run-fits}
+use Rattle.rules.proofs.Fitting.{Sized, put-sized, get-sized, deliver-sized}
 use Rattle.schedule.specs.declared.Step.{Step}
 use Rattle.schedule.specs.Step.{callOf, unused-zero, played, played-on}
 
