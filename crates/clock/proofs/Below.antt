@@ -90,6 +90,12 @@ module _ (p : ℕ → Bool) where
       ⊎-elim (λ (z : least m p ≡ i). z) (λ (z : least m p ≢ i). both e (r .2 i (omega (arith, ltb-false (least m p) i k)))) (eq? (least m p) i))
       (true-or-false (ltb (least m p) i))
 
+  -- two tests that agree below the bound
+  pub all-same : (q : ℕ → Bool) (m : ℕ) → ((j : ℕ) → j < m → p j ≡ q j) → all m p ≡ all m q
+  unfolding all
+  all-same q zero f = refl
+  all-same q (suc m) f = λ i. all-same q m (λ j h. f j (omega arith)) i && f m (omega arith) i
+
   -- a loop that counts up
   pub all-more : (i : ℕ) → all i p ≡ true → p i ≡ true → all (i + 1) p ≡ true
   unfolding all

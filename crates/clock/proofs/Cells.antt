@@ -9,7 +9,7 @@ use lib.Dec.{ltb}
 use lib.ListN.{length, getD, set, replicate, List·getD-eq-default}
 use lib.Seq.{getD-set-same, getD-set-other}
 use borrow.Author.Tests.{lt-ltb, le-ltb, ltb-true, ltb-false}
-use Rattle.clock.specs.Map.{if_then_else_, _⟨_≔_⟩}
+use Rattle.clock.specs.Map.{_⟨_≔_⟩, upTo}
 use Rattle.clock.specs.Vector.{zeros}
 use Rattle.clock.specs.Clock.{cells}
 use Rattle.clock.proofs.Maps.{at-is, at-same, at-other, true-or-false, eq?}
@@ -27,44 +27,47 @@ module _ {A B : Type 0} (f : A → B) (d : A) where
       (λ (e : i ≢ j). ap f (getD-set-other l i j a d (λ q. e (sym q))) ∙ sym (at-other (through l) i (f a) j e))
       (eq? i j)
 
-module _ {B : Type 0} where
-  -- below i the map v, from i on the map w
-  abbrev pub upTo : ℕ → (ℕ → B) → (ℕ → B) → ℕ → B
-  upTo i v w j = if ltb j i then v j else w j
+module _ {B : Type 0} (v w : ℕ → B) where
+  pub upTo-below : (i j : ℕ) → j < i → upTo i v w j ≡ v j
+  upTo-below i j h = rw (lt-ltb j i h)
 
-  module _ (v w : ℕ → B) where
-    pub upTo-below : (i j : ℕ) → j < i → upTo i v w j ≡ v j
-    upTo-below i j h = rw (lt-ltb j i h)
+  pub upTo-from : (i j : ℕ) → i ≤ j → upTo i v w j ≡ w j
+  upTo-from i j h = rw (le-ltb j i h)
 
-    pub upTo-from : (i j : ℕ) → i ≤ j → upTo i v w j ≡ w j
-    upTo-from i j h = rw (le-ltb j i h)
+  pub upTo-start : w ≡ upTo 0 v w
+  upTo-start = fun-ext λ j. sym (upTo-from 0 j (omega arith))
 
-    pub upTo-start : w ≡ upTo 0 v w
-    upTo-start = fun-ext λ j. sym (upTo-from 0 j (omega arith))
+  pub upTo-none : (i : ℕ) → upTo i (upTo i w v) w ≡ w
+  upTo-none i =
+      fun-ext λ j.
+      ⊎-elim
+      (λ (e : ltb j i ≡ true). rw e)
+      (λ (e : ltb j i ≡ false). rw e)
+      (true-or-false (ltb j i))
 
-    pub upTo-next : (i : ℕ) → upTo i v w ⟨ i ≔ v i ⟩ ≡ upTo (i + 1) v w
-    upTo-next i =
-        fun-ext λ j.
-        ⊎-elim
-        (λ p. p .1 ∙ ap v (p .0) ∙ sym (upTo-below (i + 1) j (omega (arith, p .0))))
-        (λ p. p .1 ∙ elsewhere j (p .0))
-        (at-is (upTo i v w) i (v i) j)
-      where
-        elsewhere : (j : ℕ) → i ≢ j → upTo i v w j ≡ upTo (i + 1) v w j
-        elsewhere j h =
-            ⊎-elim
-            (λ (e : ltb j i ≡ true). let l = ltb-true j i e in upTo-below i j l ∙ sym (upTo-below (i + 1) j (omega arith)))
-            (λ (e : ltb j i ≡ false). let l = ltb-false j i e in upTo-from i j l ∙ sym (upTo-from (i + 1) j (omega arith)))
-            (true-or-false (ltb j i))
+  pub upTo-next : (i : ℕ) → upTo i v w ⟨ i ≔ v i ⟩ ≡ upTo (i + 1) v w
+  upTo-next i =
+      fun-ext λ j.
+      ⊎-elim
+      (λ p. p .1 ∙ ap v (p .0) ∙ sym (upTo-below (i + 1) j (omega (arith, p .0))))
+      (λ p. p .1 ∙ elsewhere j (p .0))
+      (at-is (upTo i v w) i (v i) j)
+    where
+      elsewhere : (j : ℕ) → i ≢ j → upTo i v w j ≡ upTo (i + 1) v w j
+      elsewhere j h =
+          ⊎-elim
+          (λ (e : ltb j i ≡ true). let l = ltb-true j i e in upTo-below i j l ∙ sym (upTo-below (i + 1) j (omega arith)))
+          (λ (e : ltb j i ≡ false). let l = ltb-false j i e in upTo-from i j l ∙ sym (upTo-from (i + 1) j (omega arith)))
+          (true-or-false (ltb j i))
 
-    -- both are the same past the bound
-    pub upTo-all : (m i : ℕ) → m ≤ i → ((j : ℕ) → m ≤ j → w j ≡ v j) → upTo i v w ≡ v
-    upTo-all m i h f =
-        fun-ext λ j.
-        ⊎-elim
-        (λ (e : ltb j i ≡ true). upTo-below i j (ltb-true j i e))
-        (λ (e : ltb j i ≡ false). let l = ltb-false j i e in upTo-from i j l ∙ f j (omega arith))
-        (true-or-false (ltb j i))
+  -- both are the same past the bound
+  pub upTo-all : (m i : ℕ) → m ≤ i → ((j : ℕ) → m ≤ j → w j ≡ v j) → upTo i v w ≡ v
+  upTo-all m i h f =
+      fun-ext λ j.
+      ⊎-elim
+      (λ (e : ltb j i ≡ true). upTo-below i j (ltb-true j i e))
+      (λ (e : ltb j i ≡ false). let l = ltb-false j i e in upTo-from i j l ∙ f j (omega arith))
+      (true-or-false (ltb j i))
 
 -- a loop that fills an array: what it stores at i is v's
 pub fill-next : {A B : Type 0} (f : A → B) (d : A) (v w : ℕ → B) (l : List A) (i : ℕ) (a : A)

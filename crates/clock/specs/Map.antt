@@ -1,7 +1,7 @@
 -- Choosing by a test, maps with one place changed, and tests of every number below a bound. Assumes nothing.
 use mathlib.Core.Bool.{Bool, true, false, _&&_, _||_}
 use Prim.Native.Nat.{ℕ, zero, suc}
-use lib.Dec.{eqb}
+use lib.Dec.{eqb, ltb}
 
 infix 20 if_then_else_
 abbrev pub if_then_else_ {ℓ} : {A : Type ℓ} → Bool → A → A → A
@@ -17,6 +17,10 @@ _⟨_≔_⟩ f i a j = if eqb i j then a else f j
 infixl 90 _⟨_⟩⟨_≔_⟩
 abbrev pub _⟨_⟩⟨_≔_⟩ {ℓ} : {A : Type ℓ} → (ℕ → ℕ → A) → ℕ → ℕ → A → ℕ → ℕ → A
 _⟨_⟩⟨_≔_⟩ f i j a = f ⟨ i ≔ f i ⟨ j ≔ a ⟩ ⟩
+
+-- below i the map v, from i on the map w
+abbrev pub upTo {ℓ} : {A : Type ℓ} → ℕ → (ℕ → A) → (ℕ → A) → ℕ → A
+upTo i v w j = if ltb j i then v j else w j
 
 -- whether a test passes at every number below m, and at some number below m
 unfoldable pub all : ℕ → (ℕ → Bool) → Bool

@@ -14,7 +14,7 @@ pub enum Compared {
     Beyond { column: usize, number: u16 },
 }
 
-fn greater(a: u16, b: u16) -> u16
+pub fn greater(a: u16, b: u16) -> u16
     ensures { λ r. ⌜ r ≡ max a b ⌝ }
 {
     if a < b { b } else { a }

@@ -1,17 +1,16 @@
 -- The places of the table as fields of the state. Assumes nothing.
 use mathlib.Core.Path.{_≡_, refl, ap, _∙_, fun-ext}
-use mathlib.Core.List.{List, [], _++_}
+use mathlib.Core.List.{List, _++_}
 use lib.ListN.{length, getD, take, drop, replicate}
-use Prim.Native.Nat.{ℕ, zero, suc, _+_, _*_, _-_, _<_}
+use Prim.Native.Nat.{ℕ, zero, suc, _+_, _*_, _-_, _≤_, _<_}
 use native.Mathlib.Omega.{arith}
-use Rattle.clock.specs.Map.{_⟨_≔_⟩, _⟨_⟩⟨_≔_⟩}
-use lib.Seq.{drop-nil}
-use Rattle.clock.proofs.Cells.{cells-zeros}
+use Rattle.clock.specs.Map.{_⟨_≔_⟩, _⟨_⟩⟨_≔_⟩, upTo}
+use Rattle.clock.proofs.Cells.{cells-zeros, upTo-below, upTo-from}
 use Rattle.clock.specs.Vector.{Vector, zeros}
 use Rattle.layout.specs.Codec.{Codec, number, _then_, row}
 use Rattle.layout.specs.State.{Fields, Entry, Update, Parts, clock, vector, fields, square, entry, update, toState, ofState, table, withApplied, withDepends, withStore, withUpdates, toEntry, toUpdate, stateOf}
-use Rattle.layout.specs.Records.{fieldsAt, cells2}
-use Rattle.layout.proofs.Splice.{part}
+use Rattle.layout.specs.Records.{fieldsAt, cells2, rows}
+use Rattle.layout.proofs.Splice.{part, getD-part}
 use Rattle.layout.proofs.Fields.{Field, at-place, inner, first, second, element, clothed, read-part, write-part, read-byte}
 
 abbrev byte : Codec ℕ
@@ -68,6 +67,10 @@ depends-square = in-table (inner behind (inner (second square depends) (first sq
 pub applied-number : (s o : ℕ) → s < 8 → o < 8
     → Field table clock (4 + (s * 8 + o) * 2) (λ S. S .applied s o) (λ S c. withApplied S (S .applied ⟨ s ⟩⟨ o ≔ c ⟩))
 applied-number s o hs ho = at-place (omega arith) (inner applied-square (inner (element vector 8 s hs) (element clock 8 o ho)))
+
+pub depends-number : (s o : ℕ) → s < 8 → o < 8
+    → Field table clock (132 + (s * 8 + o) * 2) (λ S. S .depends s o) (λ S c. withDepends S (S .depends ⟨ s ⟩⟨ o ≔ c ⟩))
+depends-number s o hs ho = at-place (omega arith) (inner depends-square (inner (element vector 8 s hs) (element clock 8 o ho)))
 
 pub depends-row : (s : ℕ) → s < 8 → Field table vector (132 + s * 16) (λ S. S .depends s) (λ S v. withDepends S (S .depends ⟨ s ≔ v ⟩))
 depends-row s hs = inner depends-square (element vector 8 s hs)
@@ -156,13 +159,20 @@ cells2-zeros m k = fun-ext (go m)
     go (suc m) zero = cells-zeros k
     go (suc m) (suc i) = go m i
 
--- a vector of no bytes
-pub no-vector : vector .dec [] ≡ zeros
-no-vector = fun-ext λ j. ap (clock .dec) (ap (take 2) (drop-nil (j * 2)))
+-- the rows that were asked for
+pub rows-at : (from to i : ℕ) (f : ℕ → Vector) → from ≤ i → i < to → rows from to f i ≡ f i
+rows-at from to i f h k = upTo-below (upTo from (λ j. zeros) f) (λ j. zeros) to i k ∙ upTo-from (λ j. zeros) f from i h
+
+-- one row, read out by itself
+pub row-read : (s : ℕ) (f : ℕ → Vector) {a : ℕ → Vector} → a ≡ rows s (s + 1) f → a s ≡ f s
+row-read s f e = (λ i. e i s) ∙ rows-at s (s + 1) s f (omega arith) (omega arith)
 
 -- the clock and the tag of an entry or an update, read by themselves
 pub clock-read : (l : List ℕ) → clock .dec (part l 6 2) ≡ fieldsAt l .1 .1 .1 .0
 clock-read l = ap (λ (p : Fields). p .1 .1 .1 .0) (fields-read l)
+
+pub clock-bytes : (l : List ℕ) → getD l 6 0 * 256 + getD l 7 0 ≡ fieldsAt l .1 .1 .1 .0
+clock-bytes l = omega (arith, clock-read l, getD-part l 6 2 0 (omega arith), getD-part l 6 2 1 (omega arith))
 
 pub tag-read : (l : List ℕ) → getD l 4 0 ≡ fieldsAt l .1 .0
 tag-read l = ap (λ (p : Fields). p .1 .0) (fields-read l)

@@ -1,11 +1,17 @@
 -- Parts of a list, and a part put in the place of another, as a lent part of a slice comes back. Assumes nothing.
 use mathlib.Core.Path.{_≡_, refl, sym, ap, _∙_}
+use mathlib.Core.Bool.{true, false}
+use mathlib.Core.Logic.{⊎-elim}
 use mathlib.Core.List.{List, [], _∷_, _++_, append-assoc, append-nil}
-use Prim.Native.Nat.{ℕ, zero, suc, _+_, _-_, _≤_}
+use Prim.Native.Nat.{ℕ, zero, suc, _+_, _-_, _≤_, _<_}
 use native.Mathlib.Nat.{not-suc-le-zero, le-of-suc-le-suc, suc-add}
 use native.Mathlib.Omega.{arith}
-use lib.ListN.{length, take, drop, length-append, length-take, length-drop, take-append-drop, drop-of-length-le}
-use lib.Seq.{take-append-le, drop-append-le, take-add, drop-drop, length-take-le, take-at, drop-at, take-take, sets, sets-eq}
+use borrow.Author.Tests.{ltb-true, ltb-false}
+use lib.Dec.{ltb}
+use lib.ListN.{length, getD, take, drop, length-append, length-take, length-drop, take-append-drop, drop-of-length-le}
+use lib.Seq.{take-append-le, drop-append-le, take-add, drop-drop, length-take-le, take-at, drop-at, take-take, getD-take, getD-drop, sets, sets-eq}
+use Rattle.clock.proofs.Maps.{true-or-false}
+use Rattle.layout.specs.Ranges.{Zeros}
 
 -- the w elements from o on
 abbrev pub part : List ℕ → (o w : ℕ) → List ℕ
@@ -27,6 +33,9 @@ part-part l o w p q h = part-take q (drop o l) w p h ∙ ap (take q) (drop-drop 
 
 pub length-part : (l : List ℕ) (o w : ℕ) → o + w ≤ length l → length (part l o w) ≡ w
 length-part l o w h = simp (length-take, length-drop) (omega arith)
+
+pub getD-part : (l : List ℕ) (o w j : ℕ) → j < w → getD (part l o w) j 0 ≡ getD l (o + j) 0
+getD-part l o w j h = getD-take w (drop o l) j 0 h ∙ getD-drop o l j 0
 
 drop-part : (m : List ℕ) (k p : ℕ) → k ≤ p → p ≤ length m → drop k (take p m) ++ drop p m ≡ drop k m
 drop-part m k p h q =
@@ -55,12 +64,28 @@ module _ (l b : List ℕ) (o : ℕ) (fits : o + length b ≤ length l) where
   drop-splice p h =
       let k : ℕ = p - (o + length b) in
       let e : o + (length b + k) ≡ p = omega arith in
-      rw (← e, ← drop-drop)
+      rw (← e, ← drop-drop (length b + k) o (splice l o b))
       (ap (drop (length b + k)) from-splice
       ∙ sym (drop-drop k (length b) (b ++ drop (length b) (drop o l)))
       ∙ ap (drop k) (drop-at b (drop (length b) (drop o l)) (length b) refl)
       ∙ drop-drop k (length b) (drop o l)
       ∙ drop-drop (length b + k) o l)
+
+  -- zeros behind zeros
+  pub splice-zeros : ((j : ℕ) → j < o → getD l j 0 ≡ 0) → Zeros b → (j : ℕ) → j < o + length b → getD (splice l o b) j 0 ≡ 0
+  splice-zeros before z j h =
+      ⊎-elim
+      (λ (e : ltb j o ≡ true).
+      let k = ltb-true j o e in
+      sym (getD-take o (splice l o b) j 0 k) ∙ ap (λ (m : List ℕ). getD m j 0) (take-splice o (omega arith)) ∙ getD-take o l j 0 k ∙ before j k)
+      (λ (e : ltb j o ≡ false).
+      let k = ltb-false j o e in
+      let q : o + (j - o) ≡ j = omega arith in
+      ap (λ (i : ℕ). getD (splice l o b) i 0) (sym q)
+      ∙ sym (getD-part (splice l o b) o (length b) (j - o) (omega arith))
+      ∙ ap (λ (m : List ℕ). getD m (j - o) 0) splice-at
+      ∙ z (j - o))
+      (true-or-false (ltb j o))
 
 -- to write in a part, and the part in its place, is to write in the whole
 pub splice-splice : (l b : List ℕ) (o w p : ℕ) → p + length b ≤ w → o + w ≤ length l → splice l (o + p) b ≡ splice l o (splice (part l o w) p b)

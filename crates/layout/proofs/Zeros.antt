@@ -1,21 +1,29 @@
 -- Bytes that are all zero read as the state that is all zero. Assumes nothing.
 use mathlib.Core.Path.{_≡_, refl, sym, ap, _∙_, fun-ext}
 use mathlib.Core.List.{List, [], _∷_, _++_}
-use Prim.Native.Nat.{ℕ, zero, suc, _+_, _*_, _<_}
+use mathlib.Core.Bool.{true, false}
+use mathlib.Core.Logic.{⊎-elim}
+use Prim.Native.Nat.{ℕ, zero, suc, _+_, _*_, _≤_, _<_}
 use native.Mathlib.Omega.{arith}
-use lib.ListN.{length, getD, take, drop, replicate}
+use lib.Dec.{ltb}
+use lib.ListN.{length, getD, take, drop, replicate, List·getD-eq-default}
+use borrow.Author.Tests.{ltb-true, ltb-false}
+use Rattle.clock.proofs.Maps.{true-or-false}
+use Rattle.clock.proofs.Below.{below-suc}
 use lib.Seq.{getD-drop}
 use Rattle.clock.specs.Vector.{Vector, zeros}
 use Rattle.clock.proofs.Cells.{cells-zeros}
 use Rattle.layout.specs.Codec.{Codec, digits, inRow, number, _then_, row, via}
 use Rattle.layout.specs.State.{fields, vector, toEntry, ofEntry, toUpdate, ofUpdate, toState, ofState, table, allZero, stateOf}
-use Rattle.layout.specs.Ranges.{Bytes}
+use Rattle.layout.specs.Ranges.{Bytes, Zeros}
 use Rattle.layout.specs.Records.{fieldsAt}
 use Rattle.layout.proofs.Splice.{part}
 use Rattle.layout.proofs.TableTrips.{fields-lawful}
 
-abbrev pub Zeros : List ℕ → Type 0
-Zeros l = (i : ℕ) → getD l i 0 ≡ 0
+-- a list that is zero up to its end
+pub zeros-long : (l : List ℕ) (m : ℕ) → length l ≤ m → ((j : ℕ) → j < m → getD l j 0 ≡ 0) → Zeros l
+zeros-long l m h f j =
+    ⊎-elim (λ (e : ltb j m ≡ true). f j (ltb-true j m e)) (λ (e : ltb j m ≡ false). List·getD-eq-default l 0 (omega (arith, ltb-false j m e))) (true-or-false (ltb j m))
 
 zeros-take : (n : ℕ) (l : List ℕ) → Zeros l → Zeros (take n l)
 zeros-take zero l h i = refl
@@ -33,6 +41,11 @@ record Blank {A : Type 0} (c : Codec A) (z : A) : Type 0 where
 pub zero-number : (w : ℕ) (l : List ℕ) → Zeros l → number w .dec l ≡ 0
 zero-number zero l h = refl
 zero-number (suc w) l h = omega (arith, zero-number w l h, h w)
+
+-- and a number of 0 is of zero bytes
+pub number-zero : (w : ℕ) (l : List ℕ) → number w .dec l ≡ 0 → (j : ℕ) → j < w → getD l j 0 ≡ 0
+number-zero zero l e j h = absurd (omega arith)
+number-zero (suc w) l e j h = below-suc (λ j. getD l j 0 ≡ 0) w (number-zero w l (omega arith)) (omega arith) j h
 
 blank-number : (w : ℕ) → Blank (number w) 0
 blank-number w = record { reads = zero-number w }

@@ -10,6 +10,9 @@ use Rattle.layout.specs.State.{State, Fields, ofEntry, ofUpdate, clock, 
 unfoldable pub Bytes : List ℕ → Type 0
 Bytes l = (i : ℕ) → getD l i 0 < 256
 
+abbrev pub Zeros : List ℕ → Type 0
+Zeros l = (i : ℕ) → getD l i 0 ≡ 0
+
 -- m values in range, and past them what no bytes read as
 abbrev pub Rows : {A : Type 0} → ℕ → Codec A → (A → Type 0) → (ℕ → A) → Type 0
 Rows m c ok a = ((j : ℕ) → j < m → ok (a j)) × ((j : ℕ) → m ≤ j → a j ≡ c .dec [])

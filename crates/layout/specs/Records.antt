@@ -3,7 +3,8 @@ use mathlib.Core.Path.{_≡_}
 use mathlib.Core.List.{List, []}
 use Prim.Native.Nat.{ℕ}
 use lib.ListN.{getD}
-use Rattle.clock.specs.Vector.{Vector}
+use Rattle.clock.specs.Map.{upTo}
+use Rattle.clock.specs.Vector.{Vector, zeros}
 use Rattle.clock.specs.Clock.{cells, columns}
 use Rattle.layout.specs.declared.Record.{Record}
 use Rattle.layout.specs.declared.Header.{Header}
@@ -25,6 +26,10 @@ fieldsAt l = fields .dec l
 -- an array of arrays as the map of its rows
 abbrev pub cells2 : List (List ℕ) → ℕ → Vector
 cells2 a i = cells (getD a i [])
+
+-- the rows of f from one on and below another; zeros elsewhere
+abbrev pub rows : (from to : ℕ) → (ℕ → Vector) → ℕ → Vector
+rows from to f = upTo to (upTo from (λ i. zeros) f) (λ i. zeros)
 
 -- the header that a state has
 pub record Headed (h : Header) (S : State) : Type 0 where

@@ -1,12 +1,13 @@
 // The bytes of the table: numbers, clock vectors, entries and updates, read and written at their places.
 ghost use mathlib.Core.Path.{_≡_};
-ghost use Prim.Native.Nat.{_+_, _*_, _<_};
+ghost use Prim.Native.Nat.{_+_, _*_, _≤_, _<_};
 ghost use lib.ListN.{length};
 ghost use Rattle.clock.specs.Map.{_⟨_≔_⟩, _⟨_⟩⟨_≔_⟩};
 ghost use Rattle.clock.specs.Clock.{columns};
 ghost use Rattle.layout.specs.Codec.{number};
 ghost use Rattle.layout.specs.State.{clock, vector, square, stateOf, allZero, withCounts, withApplied, withDepends, withStore, withUpdates};
-ghost use Rattle.layout.specs.Records.{Headed, cells2, fieldsAt, fieldsOf, entryOf, updateOf};
+ghost use Rattle.layout.specs.Ranges.{Zeros};
+ghost use Rattle.layout.specs.Records.{Headed, cells2, rows, fieldsAt, fieldsOf, entryOf, updateOf};
 use clock::Clock;
 
 // An entry or an update: tag is the entry's origin or the update's key, zero its zero byte.
@@ -53,6 +54,13 @@ impl Table {
     pub const SQUARE: usize = 128;
 
     pub const RECORD: usize = 24;
+
+    pub const SHELF: usize = 1536;
+
+    // A table is cleared by blocks of a square and the four bytes behind it.
+    pub const BLOCK: usize = 132;
+
+    pub const BLOCKS: usize = 122;
 }
 
 pub fn wide(x: u16) -> usize
@@ -91,6 +99,13 @@ pub fn read_value(s: &[u8]) -> u32
     ensures { λ r. ⌜ r ≡ number 4 .dec (now (s .entry)) ⌝ }
 {
     value_of(s[0], s[1], s[2], s[3])
+}
+
+pub fn read_word(s: &[u8]) -> u64
+    requires { ⌜ length (now s) ≡ 8 ⌝ }
+    ensures { λ r. ⌜ r ≡ number 8 .dec (now (s .entry)) ⌝ }
+{
+    (read_value(&s[0..4]) as u64) * 4294967296 + (read_value(&s[4..8]) as u64)
 }
 
 pub fn write_byte(s: &mut [u8], v: u8)
@@ -145,14 +160,14 @@ pub fn write_vector(s: &mut [u8], c: Clock)
     }
 }
 
-// A square of eight rows by eight columns.
-pub fn read_square(s: &[u8]) -> [[u16; 8]; 8]
-    requires { ⌜ length (now s) ≡ 128 ⌝ }
-    ensures { λ r. ⌜ cells2 r ≡ square .dec (now (s .entry)) ⌝ }
+// The rows from `from` on and below `to` of a square of eight rows by eight columns.
+pub fn read_rows(s: &[u8], from: usize, to: usize) -> [[u16; 8]; 8]
+    requires { ⌜ (length (now s) ≡ 128) × (from ≤ to) × (to ≤ 8) ⌝ }
+    ensures { λ r. ⌜ cells2 r ≡ rows from to (square .dec (now (s .entry))) ⌝ }
 {
     let mut a = [[0u16; 8]; 8];
-    let mut i = 0;
-    while i < Table::SITES {
+    let mut i = from;
+    while i < to {
         let at = i * Table::VECTOR;
         let row = read_vector(&s[at..at + Table::VECTOR]);
         let col = row.col;
@@ -212,31 +227,60 @@ pub fn set_counts(t: &mut [u8], n: u8, k: u8)
     write_byte(&mut t[1..2], k);
 }
 
-// All bytes zero.
+fn clear_block(s: &mut [u8])
+    requires { ⌜ length (now s) ≡ 132 ⌝ }
+    ensures { λ _. ⌜ Zeros (now (s .exit)) ⌝ }
+{
+    let mut i = 0;
+    while i < Table::BLOCK {
+        s[i] = 0;
+        i += 1;
+    }
+}
+
+// All bytes zero. The blocks overlap, or the compiler would make of them a call of the host's memset.
 pub fn clear(t: &mut [u8])
     requires { ⌜ length (now t) ≡ 15620 ⌝ }
     ensures { λ _. ⌜ stateOf (now (t .exit)) ≡ allZero ⌝ }
 {
     let mut i = 0;
-    while i < Table::BYTES {
-        t[i] = 0;
+    while i < Table::BLOCKS {
+        let at = i * Table::SQUARE;
+        clear_block(&mut t[at..at + Table::BLOCK]);
         i += 1;
     }
 }
 
-// The applied counts and the dependencies, a row for each site.
-pub fn applied(t: &[u8]) -> [[u16; 8]; 8]
-    requires { ⌜ length (now t) ≡ 15620 ⌝ }
-    ensures { λ r. ⌜ cells2 r ≡ stateOf (now (t .entry)) .applied ⌝ }
+// Rows of the applied counts and of the dependencies, a row for each site.
+pub fn applied(t: &[u8], from: usize, to: usize) -> [[u16; 8]; 8]
+    requires { ⌜ (length (now t) ≡ 15620) × (from ≤ to) × (to ≤ 8) ⌝ }
+    ensures { λ r. ⌜ cells2 r ≡ rows from to (stateOf (now (t .entry)) .applied) ⌝ }
 {
-    read_square(&t[Table::APPLIED..Table::APPLIED + Table::SQUARE])
+    read_rows(&t[Table::APPLIED..Table::APPLIED + Table::SQUARE], from, to)
 }
 
-pub fn depends(t: &[u8]) -> [[u16; 8]; 8]
-    requires { ⌜ length (now t) ≡ 15620 ⌝ }
-    ensures { λ r. ⌜ cells2 r ≡ stateOf (now (t .entry)) .depends ⌝ }
+pub fn depends(t: &[u8], from: usize, to: usize) -> [[u16; 8]; 8]
+    requires { ⌜ (length (now t) ≡ 15620) × (from ≤ to) × (to ≤ 8) ⌝ }
+    ensures { λ r. ⌜ cells2 r ≡ rows from to (stateOf (now (t .entry)) .depends) ⌝ }
 {
-    read_square(&t[Table::DEPENDS..Table::DEPENDS + Table::SQUARE])
+    read_rows(&t[Table::DEPENDS..Table::DEPENDS + Table::SQUARE], from, to)
+}
+
+// One number of them.
+pub fn applied_at(t: &[u8], s: usize, o: usize) -> u16
+    requires { ⌜ (length (now t) ≡ 15620) × (s < 8) × (o < 8) ⌝ }
+    ensures { λ r. ⌜ r ≡ stateOf (now (t .entry)) .applied s o ⌝ }
+{
+    let at = Table::APPLIED + (s * Table::SITES + o) * Table::CLOCK;
+    read_clock(&t[at..at + Table::CLOCK])
+}
+
+pub fn depends_at(t: &[u8], s: usize, o: usize) -> u16
+    requires { ⌜ (length (now t) ≡ 15620) × (s < 8) × (o < 8) ⌝ }
+    ensures { λ r. ⌜ r ≡ stateOf (now (t .entry)) .depends s o ⌝ }
+{
+    let at = Table::DEPENDS + (s * Table::SITES + o) * Table::CLOCK;
+    read_clock(&t[at..at + Table::CLOCK])
 }
 
 pub fn entry_at(t: &[u8], s: usize, x: usize) -> Record
@@ -260,6 +304,14 @@ pub fn set_applied(t: &mut [u8], s: usize, o: usize, c: u16)
     ensures { λ _. ⌜ stateOf (now (t .exit)) ≡ withApplied (stateOf (now (t .entry))) (stateOf (now (t .entry)) .applied ⟨ s ⟩⟨ o ≔ c ⟩) ⌝ }
 {
     let at = Table::APPLIED + (s * Table::SITES + o) * Table::CLOCK;
+    write_clock(&mut t[at..at + Table::CLOCK], c);
+}
+
+pub fn set_depends_at(t: &mut [u8], s: usize, o: usize, c: u16)
+    requires { ⌜ (length (now t) ≡ 15620) × (s < 8) × (o < 8) ⌝ }
+    ensures { λ _. ⌜ stateOf (now (t .exit)) ≡ withDepends (stateOf (now (t .entry))) (stateOf (now (t .entry)) .depends ⟨ s ⟩⟨ o ≔ c ⟩) ⌝ }
+{
+    let at = Table::DEPENDS + (s * Table::SITES + o) * Table::CLOCK;
     write_clock(&mut t[at..at + Table::CLOCK], c);
 }
 

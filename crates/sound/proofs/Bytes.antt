@@ -1,39 +1,119 @@
 -- A blank entry is 24 zero bytes, and a retained update stands where code reads it. Assumes nothing.
 use mathlib.Core.Path.{_≡_, refl, sym, ap, _∙_}
-use mathlib.Core.Bool.{true, false, _&&_, and-true, and-false, or-false}
+use mathlib.Core.Bool.{Bool, true, false, _&&_, and-false}
 use mathlib.Core.List.{List}
 use mathlib.Core.Logic.{⊎-elim, _≢_, _↔_}
 use Prim.Native.Nat.{ℕ, suc, _+_, _*_, _-_, _%_, _≤_, _<_}
+use native.Mathlib.Numerals.{add-one}
 use native.Mathlib.Omega.{arith}
-use lib.ListN.{length, getD, drop}
-use lib.Seq.{getD-take, getD-drop}
+use lib.ListN.{length, getD}
 use lib.Dec.{eqb, ltb, leb}
-use borrow.Author.Tests.{le-leb, lt-leb, leb-true}
+use borrow.Author.Tests.{leb-true, lt-leb, ltb-true, ltb-false, eqb-true, eqb-false, ne-eqb}
+use Rattle.clock.specs.Map.{all}
 use Rattle.clock.specs.Vector.{Vector}
 use Rattle.clock.proofs.Maps.{true-or-false, eq?}
 use Rattle.clock.proofs.Below.{and-split}
 use Rattle.layout.specs.Codec.{number}
-use Rattle.layout.specs.State.{State, Entry, toEntry, toUpdate, stateOf}
-use Rattle.layout.specs.Ranges.{Bytes}
+use Rattle.layout.specs.State.{State, toEntry, toUpdate, stateOf}
+use Rattle.layout.specs.Ranges.{Bytes, Zeros}
 use Rattle.layout.specs.Records.{fieldsAt}
-use Rattle.layout.proofs.Zeros.{Zeros, zero-fields, fields-zero}
-use Rattle.layout.proofs.Splice.{part}
-use Rattle.layout.proofs.Places.{update-read}
+use Rattle.layout.proofs.Zeros.{zero-number, number-zero, zeros-part, zeros-long, zero-fields, fields-zero}
+use Rattle.layout.proofs.Splice.{part, getD-part, length-part}
+use Rattle.layout.proofs.RoundTrip.{bytes-part}
+use Rattle.layout.proofs.Places.{clock-bytes, entry-read, update-read}
 use Rattle.rules.specs.Sound.{Blank, blank, place, sound, header, counted, written, lowest, holds, retains}
 use Rattle.rules.proofs.Tested.{blank-says}
-use Rattle.sound.specs.Checks.{rangeIn, headerIn, writtenIn, heldIn, bodyIn}
+use Rattle.sound.specs.Checks.{rangeIn, headerIn, markIn, marksIn, putIn, writtenIn, heldIn, bodyIn}
+use Rattle.sound.proofs.Origins.{bySite, by-origin}
 
 module _ (l : List ℕ) where
   blank-of : Zeros l → Blank (toEntry (fieldsAt l))
   blank-of h = rw (zero-fields l h) (record { value = refl; origin = refl; zero = refl; clock = refl; depends = λ j k. refl })
 
-  pub zero-bytes : length l ≡ 24 → Bytes l → (blank (toEntry (fieldsAt l)) ≡ true) ↔ Zeros l
+  zero-bytes : length l ≡ 24 → Bytes l → (blank (toEntry (fieldsAt l)) ≡ true) ↔ Zeros l
   zero-bytes hl hb = (
     (λ e.
         let b = blank-says (toEntry (fieldsAt l)) .0 e in
         fields-zero l hl hb (fieldsAt l .1 .1 .1 .1) (λ i. (b .value i, (b .origin i, (b .zero i, (b .clock i, fieldsAt l .1 .1 .1 .1))))) (b .depends)),
     (λ h. blank-says (toEntry (fieldsAt l)) .1 (blank-of h)),
   )
+
+  -- the first word tells a written entry from a blank one
+  module _ (hl : length l ≡ 24) (hb : Bytes l) (n : ℕ) (row : Vector) where
+    abbrev at-word : ℕ → ℕ
+    at-word o = number 8 .dec (part l o 8)
+
+    full : (o : ℕ) → at-word o ≢ 0 → blank (toEntry (fieldsAt l)) ≡ false
+    full o h =
+        ⊎-elim (λ k. absurd (h (zero-number 8 (part l o 8) (zeros-part l o 8 (zero-bytes hl hb .0 k))))) (λ k. k) (true-or-false (blank (toEntry (fieldsAt l))))
+
+    byte : (o : ℕ) → at-word o ≡ 0 → (j : ℕ) → o ≤ j → j < o + 8 → getD l j 0 ≡ 0
+    byte o h j from below =
+        let e : o + (j - o) ≡ j = omega arith in
+        ap (λ (i : ℕ). getD l i 0) (sym e) ∙ sym (getD-part l o 8 (j - o) (omega arith)) ∙ number-zero 8 (part l o 8) h (j - o) (omega arith)
+
+    empty : at-word 0 ≡ 0 → at-word 8 ≡ 0 → at-word 16 ≡ 0 → blank (toEntry (fieldsAt l)) ≡ true
+    empty a b c =
+        zero-bytes hl hb .1 (zeros-long l 24 (omega arith) λ j h.
+        ⊎-elim
+        (λ (x : ltb j 8 ≡ true). byte 0 a j (omega arith) (omega (arith, ltb-true j 8 x)))
+        (λ (x : ltb j 8 ≡ false).
+        ⊎-elim
+        (λ (y : ltb j 16 ≡ true). byte 8 b j (ltb-false j 8 x) (omega (arith, ltb-true j 16 y)))
+        (λ (y : ltb j 16 ≡ false). byte 16 c j (ltb-false j 16 y) (omega arith))
+        (true-or-false (ltb j 16)))
+        (true-or-false (ltb j 8)))
+
+    unwritten : at-word 0 ≡ 0 → (o : ℕ) → at-word o ≢ 0 → writtenIn n row (toEntry (fieldsAt l)) ≡ false
+    unwritten z o h =
+        let none : fieldsAt l .1 .1 .1 .0 ≡ 0 =
+        omega (arith, clock-bytes l, byte 0 z 6 (omega arith) (omega arith), byte 0 z 7 (omega arith) (omega arith)) in
+        rw (full o h, lt-leb 1 (fieldsAt l .1 .1 .1 .0) (omega (arith, none)), and-false (ltb (fieldsAt l .1 .0) n))
+
+    blank-word : at-word 0 ≡ 0 → writtenIn n row (toEntry (fieldsAt l)) ≡ eqb (marksIn l) 0
+    blank-word z =
+        ⊎-elim
+        (λ (p : eqb (at-word 8) 0 ≡ true).
+        ⊎-elim
+        (λ (q : eqb (at-word 16) 0 ≡ true). rw (p, q, empty z (eqb-true _ _ p) (eqb-true _ _ q)))
+        (λ (q : eqb (at-word 16) 0 ≡ false). rw (p, q) (unwritten z 16 (eqb-false _ _ q)))
+        (true-or-false (eqb (at-word 16) 0)))
+        (λ (p : eqb (at-word 8) 0 ≡ false). unwritten z 8 (eqb-false _ _ p) ∙ sym (rw p (ne-eqb (1 + markIn (at-word 16)) 0 (omega arith))))
+        (true-or-false (eqb (at-word 8) 0))
+
+-- the same of an entry in its place, as code reads it
+module _ (t : List ℕ) (ht : length t ≡ 15620) (hb : Bytes t) (s x : ℕ) (hs : s < 8) (hx : x < 64) (n : ℕ) (row : Vector) where
+  abbrev at : ℕ
+  at = 260 + s * 1536 + x * 24
+
+  abbrev entry : List ℕ
+  entry = part t at (at + 24 - at)
+
+  long : length entry ≡ 24
+  long = length-part t at (at + 24 - at) (omega arith) ∙ omega arith
+
+  there : toEntry (fieldsAt entry) ≡ stateOf t .store s x
+  there =
+      let e : at ≡ 260 + (s * 64 + x) * 24 = omega arith in
+      ap (λ (o : ℕ). toEntry (fieldsAt (part t o (o + 24 - o)))) e ∙ entry-read t s x hs hx
+
+  pub blank-here : number 8 .dec (part entry 0 8) ≡ 0 → writtenIn n row (stateOf t .store s x) ≡ eqb (marksIn entry) 0
+  blank-here z = sym (ap (writtenIn n row) there) ∙ blank-word entry long (bytes-part t at (at + 24 - at) hb) n row z
+
+  pub put-here : number 8 .dec (part entry 0 8) ≢ 0 → (r b : Bool) → r ≡ putIn n row (stateOf t .store s x) → r ≡ b → writtenIn n row (stateOf t .store s x) ≡ b
+  put-here h r b e q = rw (sym (ap blank there) ∙ full entry long (bytes-part t at (at + 24 - at) hb) n row 0 h) (sym e ∙ q)
+
+-- one entry more, with m marks
+pub entry-more : (p : ℕ → Bool) (x stray m sum : ℕ) → all x p ≡ eqb stray 0 → p x ≡ eqb m 0 → sum ≡ stray + m → all (x + 1) p ≡ eqb sum 0
+unfolding all
+entry-more p x stray m sum e f g = rw (add-one, e, f, g) (none stray m)
+  where
+    none : (a b : ℕ) → eqb a 0 && eqb b 0 ≡ eqb (a + b) 0
+    none a b =
+        ⊎-elim
+        (λ (h : a ≡ 0). let e : b ≡ 0 + b = omega arith in rw h (ap (λ (c : ℕ). eqb c 0) e))
+        (λ (h : a ≢ 0). rw (ne-eqb a 0 h, ne-eqb (a + b) 0 (omega arith)))
+        (eq? a 0)
 
 -- the update with clock low + suc i, where code reads it
 pub held-at : (t : List ℕ) (k o low i : ℕ) → o < 8
@@ -43,18 +123,6 @@ held-at t k o low i ho =
     let e : low + i + 1 ≡ low + suc i = omega arith in
     let p : low + i ≡ low + suc i - 1 = omega arith in
     (λ j. heldIn k (e j) (update-read t o ((low + i) % 16) ho (omega arith) j)) ∙ (λ j. heldIn k (low + suc i) (stateOf t .updates o (p j % 16)))
-
--- a clock of 0 leaves only the blank entry, and another clock leaves it out
-module _ (n : ℕ) (row : Vector) (e : Entry) where
-  pub written-zero : e .clock ≡ 0 → writtenIn n row e ≡ blank e
-  written-zero h =
-      let none : leb 1 (e .clock) ≡ false = lt-leb 1 (e .clock) (omega arith) in
-      rw (none, and-false (ltb (e .origin) n)) (or-false (blank e))
-
-  pub written-some : e .clock ≢ 0 → writtenIn n row e ≡ ltb (e .origin) n && leb (e .clock) (row (e .origin))
-  written-some h =
-      let full : blank e ≡ false = ⊎-elim (λ k. absurd (h (blank-says e .0 k .clock))) (λ k. k) (true-or-false (blank e)) in
-      rw (full, le-leb 1 (e .clock) (omega arith), and-true (ltb (e .origin) n))
 
 -- the whole test, from the header that code has read
 module _ (S : State) (n k y z : ℕ) (en : n ≡ S .n) (ek : k ≡ S .k) (ey : y ≡ S .byte2) (ez : z ≡ S .byte3) where
@@ -66,9 +134,9 @@ module _ (S : State) (n k y z : ℕ) (en : n ≡ S .n) (ek : k ≡ S .k) (ey : y
   unfolding sound
   unsound-header h = sym (rw (sym header-is ∙ h))
 
-  pub sound-body : headerIn n k y z ≡ true → bodyIn S n k ≡ sound S
+  pub sound-body : headerIn n k y z ≡ true → bodyIn S (S .applied) n k ≡ sound S
   unfolding sound counted written lowest holds retains
-  sound-body h = (λ i. bodyIn S (en i) (ek i)) ∙ sym (rw (sym header-is ∙ h))
+  sound-body h = by-origin S (S .applied) n k ∙ (λ i. bySite S (S .applied) (en i) (ek i)) ∙ sym (rw (sym header-is ∙ h))
 
 pub range : (n k : ℕ) → rangeIn n k ≡ true → (n ≤ 8) × (k ≤ 64)
 range n k h =
@@ -77,21 +145,3 @@ range n k h =
 
 pub header-range : (n k y z : ℕ) → headerIn n k y z ≡ true → (n ≤ 8) × (k ≤ 64)
 header-range n k y z h = range n k (and-split (rangeIn n k) (eqb y 0) (and-split (rangeIn n k && eqb y 0) (eqb z 0) h .0) .0)
-
--- four bytes that are read as 0 are zero, each of them
-pub four-zero : (l : List ℕ) (at : ℕ) → number 4 .dec (part l at (at + 4 - at)) ≡ 0 → (j : ℕ) → at ≤ j → j < at + 4 → getD l j 0 ≡ 0
-four-zero l at h j from below =
-    let w : at + 4 - at ≡ 4 = omega arith in
-    let z : number 4 .dec (part l at 4) ≡ 0 = ap (λ (m : ℕ). number 4 .dec (part l at m)) (sym w) ∙ h in
-    ⊎-elim (λ (e : j ≡ at + 0). rw e (omega (arith, byte 0 (omega arith))))
-    (λ (n0 : j ≢ at + 0).
-    ⊎-elim (λ (e : j ≡ at + 1). rw e (omega (arith, byte 1 (omega arith))))
-    (λ (n1 : j ≢ at + 1).
-    ⊎-elim (λ (e : j ≡ at + 2). rw e (omega (arith, byte 2 (omega arith))))
-    (λ (n2 : j ≢ at + 2). let e : j ≡ at + 3 = omega arith in rw e (omega (arith, byte 3 (omega arith))))
-    (eq? j (at + 2)))
-    (eq? j (at + 1)))
-    (eq? j (at + 0))
-  where
-    byte : (r : ℕ) → r < 4 → getD (part l at 4) r 0 ≡ getD l (at + r) 0
-    byte r k = getD-take 4 (drop at l) r 0 k ∙ getD-drop at l r 0

@@ -1,9 +1,12 @@
 -- The parts of the soundness test, over numbers that the code has at hand: each is the rules' own at n, k and applied of the state. Assumes nothing.
 use mathlib.Core.Bool.{Bool, _&&_, _||_}
+use mathlib.Core.List.{List}
 use Prim.Native.Nat.{ℕ, suc, _+_, _-_}
 use lib.Dec.{eqb, ltb, leb}
-use Rattle.clock.specs.Map.{all}
+use lib.ListN.{take, drop}
+use Rattle.clock.specs.Map.{if_then_else_, all}
 use Rattle.clock.specs.Vector.{Vector}
+use Rattle.layout.specs.Codec.{number}
 use Rattle.layout.specs.State.{State, Entry, Update}
 use Rattle.rules.specs.Sound.{blank, smallest, place}
 
@@ -13,14 +16,18 @@ rangeIn n k = leb 1 n && leb n 8 && leb 1 k && leb k 64
 abbrev pub headerIn : (n k byte2 byte3 : ℕ) → Bool
 headerIn n k y z = rangeIn n k && eqb y 0 && eqb z 0
 
-abbrev pub countedIn : (here top : ℕ) → Bool
-countedIn here top = leb here top && leb top (here + 16)
-
-abbrev pub countsIn : (ℕ → Vector) → (n : ℕ) → Bool
-countsIn a n = all n (λ s. all n (λ o. countedIn (a s o) (a o o)))
+abbrev pub putIn : (n : ℕ) → Vector → Entry → Bool
+putIn n row e = ltb (e .origin) n && leb 1 (e .clock) && leb (e .clock) (row (e .origin))
 
 abbrev pub writtenIn : (n : ℕ) → Vector → Entry → Bool
-writtenIn n row e = blank e || (ltb (e .origin) n && leb 1 (e .clock) && leb (e .clock) (row (e .origin)))
+writtenIn n row e = blank e || putIn n row e
+
+abbrev pub markIn : ℕ → ℕ
+markIn w = if eqb w 0 then 0 else 1
+
+-- how many of the two words of a vector, from byte 8 of its 24 on, are not 0
+abbrev pub marksIn : List ℕ → ℕ
+marksIn l = markIn (number 8 .dec (take 8 (drop 8 l))) + markIn (number 8 .dec (take 8 (drop 16 l)))
 
 abbrev pub entriesIn : State → (ℕ → Vector) → (n k : ℕ) → Bool
 entriesIn S a n k = all n (λ s. all k (λ x. writtenIn n (a s) (S .store s x)))
@@ -34,8 +41,14 @@ heldIn k c u = eqb (u .clock) c && ltb (u .key) k
 abbrev pub retainedIn : State → (k o low top : ℕ) → Bool
 retainedIn S k o low top = all (top - low) (λ i. heldIn k (low + suc i) (S .updates o (place (low + suc i))))
 
-abbrev pub updatesIn : State → (ℕ → Vector) → (n k : ℕ) → Bool
-updatesIn S a n k = all n (λ o. retainedIn S k o (lowestIn a n o) (a o o))
+abbrev pub lagIn : State → (k o low top : ℕ) → Bool
+lagIn S k o low top = leb top (low + 16) && retainedIn S k o low top
 
-abbrev pub bodyIn : State → (n k : ℕ) → Bool
-bodyIn S n k = countsIn (S .applied) n && entriesIn S (S .applied) n k && updatesIn S (S .applied) n k
+abbrev pub originIn : State → (ℕ → Vector) → (n k o : ℕ) → Bool
+originIn S a n k o = all n (λ s. leb (a s o) (a o o)) && lagIn S k o (lowestIn a n o) (a o o)
+
+abbrev pub originsIn : State → (ℕ → Vector) → (n k : ℕ) → Bool
+originsIn S a n k = all n (originIn S a n k)
+
+abbrev pub bodyIn : State → (ℕ → Vector) → (n k : ℕ) → Bool
+bodyIn S a n k = entriesIn S a n k && originsIn S a n k

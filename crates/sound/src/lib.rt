@@ -3,10 +3,10 @@ ghost use mathlib.Core.Path.{_≡_};
 ghost use Prim.Native.Nat.{_≤_, _<_, min};
 ghost use lib.ListN.{length};
 ghost use Rattle.clock.specs.Clock.{cells};
-ghost use Rattle.layout.specs.State.{stateOf, toEntry, toUpdate};
+ghost use Rattle.layout.specs.State.{stateOf, toUpdate};
 ghost use Rattle.layout.specs.Records.{cells2, fieldsAt};
-ghost use Rattle.rules.specs.Sound.{sound, blank};
-ghost use Rattle.sound.specs.Checks.{rangeIn, headerIn, countedIn, countsIn, writtenIn, entriesIn, lowestIn, heldIn, retainedIn, updatesIn, bodyIn};
+ghost use Rattle.rules.specs.Sound.{sound};
+ghost use Rattle.sound.specs.Checks.{rangeIn, headerIn, markIn, marksIn, putIn, entriesIn, heldIn, retainedIn, lagIn, originsIn, bodyIn};
 use layout::Header;
 use layout::Table;
 
@@ -39,61 +39,32 @@ fn header_sound(h: Header) -> bool
     h.byte3 == 0
 }
 
-// At most as many as the origin, and at most 16 fewer.
-fn counted(here: usize, top: usize) -> bool
-    requires { ⌜ (here < 65536) × (top < 65536) ⌝ }
-    ensures { λ r. ⌜ r ≡ countedIn here top ⌝ }
+// 1 for a word that is not 0.
+fn mark(w: u64) -> usize
+    ensures { λ r. ⌜ (r ≡ markIn w) × (r ≤ 1) ⌝ }
 {
-    if top < here {
-        return false;
-    }
-    top <= here + 16
+    if w == 0 { 0 } else { 1 }
 }
 
-fn counts_sound(a: [[u16; 8]; 8], n: usize) -> bool
-    requires { ⌜ n ≤ 8 ⌝ }
-    ensures { λ r. ⌜ r ≡ countsIn (cells2 a) n ⌝ }
-{
-    let mut ok = true;
-    let mut s = 0;
-    'scan: while s < n {
-        let mut o = 0;
-        while o < n {
-            if !counted(layout::wide(a[s][o]), layout::wide(a[o][o])) {
-                ok = false;
-                break 'scan;
-            }
-            o += 1;
-        }
-        s += 1;
-    }
-    ok
-}
-
-// 24 zero bytes, four at a time.
-fn zero_bytes(e: &[u8]) -> bool
+// How many of the two words of an entry's vector are not 0.
+fn marks(e: &[u8]) -> usize
     requires { ⌜ length (now e) ≡ 24 ⌝ }
-    ensures { λ r. ⌜ r ≡ blank (toEntry (fieldsAt (now (e .entry)))) ⌝ }
+    ensures { λ r. ⌜ (r ≡ marksIn (now (e .entry))) × (r ≤ 2) ⌝ }
 {
-    let mut i = 0;
-    while i < 6 {
-        let at = i * 4;
-        if layout::read_value(&e[at..at + 4]) != 0 {
-            return false;
-        }
-        i += 1;
-    }
-    true
+    mark(layout::read_word(&e[8..16])) + mark(layout::read_word(&e[16..24]))
 }
 
-// A clock that is not 0 is one that the site has applied; else the entry is blank.
-fn entry_sound(e: &[u8], row: [u16; 8], n: usize) -> bool
-    requires { ⌜ (length (now e) ≡ 24) × (n ≤ 8) ⌝ }
-    ensures { λ r. ⌜ r ≡ writtenIn n (cells row) (toEntry (fieldsAt (now (e .entry)))) ⌝ }
+// An origin below n, and a clock that the site has applied of it. The place is worked out anew: otherwise the compiler
+// takes the clock out of the word that the caller has read, and a full table costs a quarter more.
+fn written(t: &[u8], s: usize, x: usize, row: &[u16; 8], n: usize) -> bool
+    requires { ⌜ (length (now t) ≡ 15620) × (s < 8) × (x < 64) × (n ≤ 8) ⌝ }
+    ensures { λ r. ⌜ r ≡ putIn n (cells (now (row .entry))) (stateOf (now (t .entry)) .store s x) ⌝ }
 {
+    let at = Table::STORE + (s * Table::KEYS + x) * Table::RECORD;
+    let e = &t[at..at + Table::RECORD];
     let clock = layout::read_clock(&e[6..8]);
     if clock == 0 {
-        return zero_bytes(e);
+        return false;
     }
     let origin = layout::wide_byte(e[4]);
     if n <= origin {
@@ -102,22 +73,34 @@ fn entry_sound(e: &[u8], row: [u16; 8], n: usize) -> bool
     clock <= row[origin]
 }
 
-fn entries_sound(t: &[u8], a: [[u16; 8]; 8], n: usize, k: usize) -> bool
+// Eight bytes tell a written entry from a blank one. The vectors of a site's blank entries are judged together, behind
+// its last key, so that an entry takes one branch that is hard to foretell.
+fn entries_sound(t: &[u8], a: &[[u16; 8]; 8], n: usize, k: usize) -> bool
     requires { ⌜ (length (now t) ≡ 15620) × (n ≤ 8) × (k ≤ 64) ⌝ }
-    ensures { λ r. ⌜ r ≡ entriesIn (stateOf (now (t .entry))) (cells2 a) n k ⌝ }
+    ensures { λ r. ⌜ r ≡ entriesIn (stateOf (now (t .entry))) (cells2 (now (a .entry))) n k ⌝ }
 {
     let mut ok = true;
     let mut s = 0;
     'scan: while s < n {
-        let row = a[s];
+        let row = &a[s];
+        let mut stray = 0;
         let mut x = 0;
         while x < k {
-            let at = Table::STORE + (s * Table::KEYS + x) * Table::RECORD;
-            if !entry_sound(&t[at..at + Table::RECORD], row, n) {
-                ok = false;
-                break 'scan;
+            let at = Table::STORE + s * Table::SHELF + x * Table::RECORD;
+            let e = &t[at..at + Table::RECORD];
+            if layout::read_word(&e[0..8]) == 0 {
+                stray += marks(e);
+            } else {
+                if !written(t, s, x, row, n) {
+                    ok = false;
+                    break 'scan;
+                }
             }
             x += 1;
+        }
+        if stray != 0 {
+            ok = false;
+            break 'scan;
         }
         s += 1;
     }
@@ -128,20 +111,6 @@ fn lesser(a: usize, b: usize) -> usize
     ensures { λ r. ⌜ r ≡ min a b ⌝ }
 {
     if b < a { b } else { a }
-}
-
-// The smallest applied[s][o] over sites s below n.
-fn lowest(a: [[u16; 8]; 8], n: usize, o: usize) -> usize
-    requires { ⌜ (n ≤ 8) × (o < 8) ⌝ }
-    ensures { λ r. ⌜ (r ≡ lowestIn (cells2 a) n o) × (r ≤ cells2 a o o) ⌝ }
-{
-    let mut low = layout::wide(a[o][o]);
-    let mut s = 0;
-    while s < n {
-        low = lesser(low, layout::wide(a[s][o]));
-        s += 1;
-    }
-    low
 }
 
 // The place of c holds clock c and a key below k.
@@ -171,32 +140,55 @@ fn retained(t: &[u8], k: usize, o: usize, low: usize, top: usize) -> bool
     true
 }
 
-fn updates_sound(t: &[u8], a: [[u16; 8]; 8], n: usize, k: usize) -> bool
-    requires { ⌜ (length (now t) ≡ 15620) × (n ≤ 8) ⌝ }
-    ensures { λ r. ⌜ r ≡ updatesIn (stateOf (now (t .entry))) (cells2 a) n k ⌝ }
+// The smallest count is at most 16 fewer than the origin's own, and each clock between is held.
+fn lag_sound(t: &[u8], k: usize, o: usize, low: usize, top: usize) -> bool
+    requires { ⌜ (length (now t) ≡ 15620) × (o < 8) × (low ≤ top) × (top < 65536) ⌝ }
+    ensures { λ r. ⌜ r ≡ lagIn (stateOf (now (t .entry))) k o low top ⌝ }
 {
+    if low + Table::PLACES < top {
+        return false;
+    }
+    retained(t, k, o, low, top)
+}
+
+// No site has applied more of o's puts than o, nor more than 16 fewer; o's updates that some site lacks are held.
+fn origins_sound(t: &[u8], a: &[[u16; 8]; 8], n: usize, k: usize) -> bool
+    requires { ⌜ (length (now t) ≡ 15620) × (n ≤ 8) ⌝ }
+    ensures { λ r. ⌜ r ≡ originsIn (stateOf (now (t .entry))) (cells2 (now (a .entry))) n k ⌝ }
+{
+    let mut ok = true;
     let mut o = 0;
-    while o < n {
-        if !retained(t, k, o, lowest(a, n, o), layout::wide(a[o][o])) {
-            return false;
+    'scan: while o < n {
+        let top = layout::wide(a[o][o]);
+        let mut low = top;
+        let mut s = 0;
+        while s < n {
+            let here = layout::wide(a[s][o]);
+            if top < here {
+                ok = false;
+                break 'scan;
+            }
+            low = lesser(low, here);
+            s += 1;
+        }
+        if !lag_sound(t, k, o, low, top) {
+            ok = false;
+            break 'scan;
         }
         o += 1;
     }
-    true
+    ok
 }
 
 fn body_sound(t: &[u8], n: usize, k: usize) -> bool
     requires { ⌜ (length (now t) ≡ 15620) × (n ≤ 8) × (k ≤ 64) ⌝ }
-    ensures { λ r. ⌜ r ≡ bodyIn (stateOf (now (t .entry))) n k ⌝ }
+    ensures { λ r. ⌜ r ≡ bodyIn (stateOf (now (t .entry))) (stateOf (now (t .entry)) .applied) n k ⌝ }
 {
-    let a = layout::applied(t);
-    if !counts_sound(a, n) {
+    let a = layout::applied(t, 0, n);
+    if !entries_sound(t, &a, n, k) {
         return false;
     }
-    if !entries_sound(t, a, n, k) {
-        return false;
-    }
-    updates_sound(t, a, n, k)
+    origins_sound(t, &a, n, k)
 }
 
 pub fn sound(t: &[u8]) -> bool

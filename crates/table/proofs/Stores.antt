@@ -1,7 +1,8 @@
 -- The stores of a step, one after another, are the step. Assumes nothing.
 use mathlib.Core.Path.{_≡_, ap, _∙_}
 use mathlib.Core.Logic.{_≢_}
-use Prim.Native.Nat.{ℕ}
+use Prim.Native.Nat.{ℕ, _+_, max}
+use native.Mathlib.Omega.{arith}
 use borrow.Author.Tests.{eq-eqb, ne-eqb}
 use Rattle.clock.specs.Map.{_⟨_≔_⟩, _⟨_⟩⟨_≔_⟩}
 use Rattle.clock.specs.Vector.{Vector, zeros, join, note}
@@ -10,17 +11,21 @@ use Rattle.rules.specs.Sound.{place}
 use Rattle.rules.specs.Steps.{next, put, learn, waiting, deliver}
 
 module _ (S : State) where
-  pub put-stores : (S₁ S₂ S₃ S₄ : State) (s x v c p : ℕ) (row zero noted : Vector)
+  pub next-is : (s o : ℕ) {a c : ℕ} → c ≡ a + 1 → a ≡ S .applied s o → c ≡ next S s o
+  next-is s o e f = omega arith
+
+  pub put-stores : (S₁ S₂ S₃ S₄ : State) (s x v c p m : ℕ) (row zero : Vector)
       → S₁ ≡ withUpdates S (S .updates ⟨ s ⟩⟨ p ≔ record { value = v; key = x; zero = 0; clock = c; depends = row } ⟩)
       → S₂ ≡ withStore S₁ (S₁ .store ⟨ s ⟩⟨ x ≔ record { value = v; origin = s; zero = 0; clock = c; depends = zero } ⟩)
       → S₃ ≡ withApplied S₂ (S₂ .applied ⟨ s ⟩⟨ s ≔ c ⟩)
-      → S₄ ≡ withDepends S₃ (S₃ .depends ⟨ s ≔ noted ⟩)
-      → c ≡ next S s s → p ≡ place (next S s s) → row ≡ S .depends s → zero ≡ zeros → noted ≡ note (S .depends s) s (next S s s)
+      → S₄ ≡ withDepends S₃ (S₃ .depends ⟨ s ⟩⟨ s ≔ m ⟩)
+      → c ≡ next S s s → p ≡ place (next S s s) → row ≡ S .depends s → zero ≡ zeros → m ≡ max (S₃ .depends s s) c
       → S₄ ≡ put S s x v .after
   unfolding put
-  put-stores S₁ S₂ S₃ S₄ s x v c p row zero noted e₁ e₂ e₃ e₄ ec ep er ez en =
+  put-stores S₁ S₂ S₃ S₄ s x v c p m row zero e₁ e₂ e₃ e₄ ec ep er ez em =
       e₄
-      ∙ ap (λ (T : State). withDepends T (T .depends ⟨ s ≔ noted ⟩))
+      ∙ ap (λ (m : ℕ). withDepends S₃ (S₃ .depends ⟨ s ⟩⟨ s ≔ m ⟩)) em
+      ∙ ap (λ (T : State). withDepends T (T .depends ⟨ s ⟩⟨ s ≔ max (T .depends s s) c ⟩))
       (e₃
       ∙ ap (λ (T : State). withApplied T (T .applied ⟨ s ⟩⟨ s ≔ c ⟩))
       (e₂ ∙ ap (λ (T : State). withStore T (T .store ⟨ s ⟩⟨ x ≔ record { value = v; origin = s; zero = 0; clock = c; depends = zero } ⟩)) e₁))
@@ -31,7 +36,7 @@ module _ (S : State) where
       (withUpdates S (S .updates ⟨ s ⟩⟨ ep i ≔ record { value = v; key = x; zero = 0; clock = ec i; depends = er i } ⟩))
       (S .store ⟨ s ⟩⟨ x ≔ record { value = v; origin = s; zero = 0; clock = ec i; depends = ez i } ⟩))
       (S .applied ⟨ s ⟩⟨ s ≔ ec i ⟩))
-      (S .depends ⟨ s ≔ en i ⟩))
+      (S .depends ⟨ s ⟩⟨ s ≔ max (S .depends s s) (ec i) ⟩))
 
   pub learn-none : (s x : ℕ) → S .store s x .clock ≡ 0 → S ≡ learn S s x
   unfolding learn

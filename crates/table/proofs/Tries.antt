@@ -42,9 +42,9 @@ module _ (S : State) (s o : ℕ) (D : Sound S) (hs : s < S .n) (ho : o < S .n) (
         unless-none (deliver-refusals S s o) (undelivered S s o) S (deliver S s o)
         (deliver-asks S s o D hs ho hd ∙ rw (ne-eqb (S .applied s o) (S .applied o o) behind, e))
 
--- two numbers of an array differ in the square that it stands for
-pub differ : {a b : ℕ → Vector} {i j k l : ℕ} → a ≡ b → a i j ≢ a k l → b i j ≢ b k l
-differ {i = i} {j = j} {k = k} {l = l} f h e = h (ap (λ (g : ℕ → Vector). g i j) f ∙ e ∙ sym (ap (λ (g : ℕ → Vector). g k l) f))
+-- two numbers that code has read differ in the table
+pub differ : {x y a b : ℕ} → x ≡ a → y ≡ b → x ≢ y → a ≢ b
+differ ex ey h e = h (ex ∙ e ∙ sym ey)
 
 -- the update that is left for s: its key is one of the table's, and its clock fits
 module _ (t : List ℕ) (s o : ℕ) (h : Attempts t s o) (behind : stateOf t .applied s o ≢ stateOf t .applied o o) where
@@ -63,16 +63,16 @@ module _ (t : List ℕ) (s o : ℕ) (h : Attempts t s o) (behind : stateOf t .ap
       omega (arith, h .sound .most s o (h .site) (h .origin), state-fits t (h .size) b .1 .1 .1 .1 .0 .0 o l .0 o l)
 
   -- as code finds it
-  module _ (a : ℕ → Vector) (f : a ≡ S .applied) (u : Record) (p : ℕ) (eu : updateOf u ≡ S .updates o (p % 16)) (ep : p ≡ a s o) where
+  module _ (u : Record) (p : ℕ) (eu : updateOf u ≡ S .updates o (p % 16)) (ep : p ≡ S .applied s o) where
     pub next-update : updateOf u ≡ waiting S s o
     next-update =
-        let e : p ≡ next S s o - 1 = ep ∙ ap (λ (f : ℕ → Vector). f s o) f ∙ omega arith in
+        let e : p ≡ next S s o - 1 = ep ∙ omega arith in
         eu ∙ (λ i. S .updates o (e i % 16))
 
-    pub compared : (m : Compared) → m ≡ compare (columns (u .depends)) (a s) → compare (waiting S s o .depends) (S .applied s) ≡ m
-    compared m e = sym (e ∙ (λ i. compare (next-update i .depends) (f i s)))
+    pub compared : (row : Vector) → row ≡ S .applied s → (m : Compared) → m ≡ compare (columns (u .depends)) row → compare (waiting S s o .depends) (S .applied s) ≡ m
+    compared row er m e = sym (e ∙ (λ i. compare (next-update i .depends) (er i)))
 
-    pub deliver-fits : (c : ℕ) → c ≡ a s o + 1 → DeliverFits t s o u c
+    pub deliver-fits : (c : ℕ) → c ≡ S .applied s o + 1 → DeliverFits t s o u c
     deliver-fits c ec =
         record {
           size = h .size;
@@ -80,5 +80,5 @@ module _ (t : List ℕ) (s o : ℕ) (h : Attempts t s o) (behind : stateOf t .ap
           origin = omega (arith, h .origin, h .sound .sites);
           key = omega (arith, waiting-key, ap (λ (w : Update). w .key) next-update);
           update = next-update;
-          clock = ec ∙ omega (arith, ap (λ (f : ℕ → Vector). f s o) f);
+          clock = ec ∙ omega arith;
         }

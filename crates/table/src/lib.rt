@@ -1,8 +1,9 @@
 // Open, put, get and deliver over a lent buffer of any length.
 ghost use mathlib.Core.Path.{_≡_};
 ghost use Prim.Native.Nat.{_+_, _≤_, _<_};
+ghost use lib.ListN.{length};
 ghost use Rattle.layout.specs.State.{stateOf};
-ghost use Rattle.layout.specs.Records.{cells2, entryOf};
+ghost use Rattle.layout.specs.Records.{entryOf};
 ghost use Rattle.rules.specs.Steps.{next, put, learn, deliver};
 ghost use Rattle.rules.specs.Refusals.{first};
 ghost use Rattle.rules.specs.Drain.{try};
@@ -106,14 +107,14 @@ pub fn table_refusal(t: &[u8]) -> Refusal
 }
 
 // Some site has applied 16 fewer of s's puts than s.
-fn full(a: [[u16; 8]; 8], n: usize, s: usize) -> bool
-    requires { ⌜ (n ≤ 8) × (s < 8) ⌝ }
-    ensures { λ r. ⌜ r ≡ fullIn (cells2 a) n s ⌝ }
+fn full(t: &[u8], n: usize, s: usize) -> bool
+    requires { ⌜ (length (now t) ≡ 15620) × (n ≤ 8) × (s < 8) ⌝ }
+    ensures { λ r. ⌜ r ≡ fullIn (stateOf (now (t .entry)) .applied) n s ⌝ }
 {
-    let top = layout::wide(a[s][s]);
+    let top = layout::wide(layout::applied_at(t, s, s));
     let mut i = 0;
     while i < n {
-        if layout::wide(a[i][s]) + Table::PLACES == top {
+        if layout::wide(layout::applied_at(t, i, s)) + Table::PLACES == top {
             return true;
         }
         i += 1;
@@ -151,14 +152,14 @@ fn sites_refusal(n: usize, s: usize, o: usize) -> Refusal
 }
 
 // 7 and 8: room for one more put of s.
-fn room_refusal(a: [[u16; 8]; 8], n: usize, s: usize) -> Refusal
-    requires { ⌜ (n ≤ 8) × (s < 8) ⌝ }
-    ensures { λ r. ⌜ codeOf r ≡ first (roomIn (cells2 a) n s) ⌝ }
+fn room_refusal(t: &[u8], n: usize, s: usize) -> Refusal
+    requires { ⌜ (length (now t) ≡ 15620) × (n ≤ 8) × (s < 8) ⌝ }
+    ensures { λ r. ⌜ codeOf r ≡ first (roomIn (stateOf (now (t .entry)) .applied) n s) ⌝ }
 {
-    if a[s][s] == Table::LAST_CLOCK {
+    if layout::applied_at(t, s, s) == Table::LAST_CLOCK {
         return Refusal::Spent;
     }
-    if full(a, n, s) {
+    if full(t, n, s) {
         return Refusal::Full;
     }
     Refusal::Nothing
@@ -184,7 +185,7 @@ fn put_refusal(t: &[u8], s: usize, x: usize) -> Refusal
     match why {
         Refusal::Nothing => {
             let h = layout::read_header(t);
-            room_refusal(layout::applied(t), layout::wide_byte(h.n), s)
+            room_refusal(t, layout::wide_byte(h.n), s)
         }
         _ => why,
     }
@@ -203,13 +204,11 @@ fn put_step(t: &mut [u8], s: usize, x: usize, v: u32) -> u16
     requires { ⌜ PutFits (now t) s x ⌝ }
     ensures { λ r. ⌜ (r ≡ next (stateOf (now (t .entry))) s s) × (stateOf (now (t .exit)) ≡ put (stateOf (now (t .entry))) s x v .after) ⌝ }
 {
-    let a = layout::applied(t);
-    let d = layout::depends(t);
-    let c = after(a[s][s]);
+    let c = after(layout::applied_at(t, s, s));
     let p = layout::wide(c - 1) % Table::PLACES;
+    let d = layout::depends(t, s, s + 1);
     let row = Clock { col: d[s] };
     let zero = Clock::zero();
-    let noted = row.note(s, c);
     layout::set_update(
         t,
         s,
@@ -235,7 +234,7 @@ fn put_step(t: &mut [u8], s: usize, x: usize, v: u32) -> u16
         },
     );
     layout::set_applied(t, s, s, c);
-    layout::set_depends(t, s, noted);
+    layout::set_depends_at(t, s, s, clock::greater(layout::depends_at(t, s, s), c));
     c
 }
 
@@ -267,7 +266,7 @@ fn get_step(t: &mut [u8], s: usize, x: usize) -> Record
     if c == 0 {
         return e;
     }
-    let d = layout::depends(t);
+    let d = layout::depends(t, s, s + 1);
     let row = Clock { col: d[s] };
     let depends = e.depends;
     let noted = row.join(depends).note(layout::wide_byte(e.tag), c);
@@ -315,13 +314,13 @@ pub fn attempt(t: &mut [u8], s: usize, o: usize) -> Answer
     requires { ⌜ Attempts (now t) s o ⌝ }
     ensures { λ r. ⌜ (numbersOf r ≡ try (stateOf (now (t .entry))) s o .answer) × (stateOf (now (t .exit)) ≡ try (stateOf (now (t .entry))) s o .after) ⌝ }
 {
-    let a = layout::applied(t);
-    let here = a[s][o];
-    if here == a[o][o] {
+    let here = layout::applied_at(t, s, o);
+    if here == layout::applied_at(t, o, o) {
         return Answer::Refused(Refusal::NoNext);
     }
     let u = layout::update_at(t, o, layout::wide(here) % Table::PLACES);
     let depends = u.depends;
+    let a = layout::applied(t, s, s + 1);
     let row = Clock { col: a[s] };
     let miss = depends.compare(row);
     match miss {

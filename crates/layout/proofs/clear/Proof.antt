@@ -1,38 +1,40 @@
-use mathlib.Core.Bool.{true, false}
-use mathlib.Core.Logic.{⊎-elim}
-use lib.Dec.{ltb}
-use borrow.Author.Tests.{ltb-true, ltb-false}
-use Rattle.clock.proofs.Maps.{true-or-false}
-use mathlib.Core.Path.{_≡_, _∙_}
-use Prim.Native.Nat.{ℕ, _≤_, _<_, _-_}
+use mathlib.Core.Path.{_≡_, sym, ap, _∙_}
+use Prim.Native.Nat.{ℕ, _≤_, _<_, _+_, _-_, _*_}
+use mathlib.Core.List.{_++_}
 use native.Mathlib.Omega.{arith}
-use lib.ListN.{length, getD, List·getD-eq-default}
-use lib.Seq.{getD-set-same, getD-set-other}
-use borrow.Author.Count.{below-more}
-use Rattle.layout.proofs.Zeros.{all-zero}
+use lib.ListN.{length, getD, take, drop}
+use Rattle.layout.proofs.Splice.{length-part, splice-zeros}
+use Rattle.layout.proofs.Zeros.{zeros-long, all-zero}
 use borrow.Author.Needs.{needs}
 use Rattle.layout.proofs.clear.Statement.{statement}
 use Rattle.layout.proofs.clear.Tie as tie
 
 abbrev Inv-loop : tie.InvT-loop
-Inv-loop t₀ i₀ t i = (i ≤ 15620) × (length t ≡ 15620) × ((j : ℕ) → j < i → getD t j 0 ≡ 0)
+Inv-loop t₀ i₀ t i = (i ≤ 122) × (length t ≡ 15620) × ((j : ℕ) → 1 ≤ i → j < i * 128 + 4 → getD t j 0 ≡ 0)
 
 abbrev μ-loop : tie.MeasureT-loop
-μ-loop t₀ i₀ t i = 15620 - i
+μ-loop t₀ i₀ t i = 122 - i
 
 loop-holds : tie.Need-loop-holds Inv-loop μ-loop
-loop-holds c = (search needs, search needs, λ j h. absurd (omega arith))
+loop-holds c = (search needs, search needs, λ j k h. absurd (omega arith))
 
 loop-again : tie.Need-loop-again Inv-loop μ-loop
 loop-again c =
-    let l = c .before .loop in
-    (search needs, search needs, below-more _ _ (λ j h. getD-set-other (l .t) (l .i) j 0 0 (omega arith) ∙ l .inv .2 j h) (getD-set-same (l .t) (l .i) 0 0 (omega arith)))
+    let l = c .before .before .before .before .before .loop in
+    let b = c .before .before .clear-block in
+    let at : ℕ = l .i * 128 in
+    let long : length (b .last .0) ≡ at + 132 - at = b .kept .0 ∙ length-part (l .t) at (at + 132 - at) (omega arith) in (
+      search needs,
+      search needs,
+      λ j k h.
+          ap (λ (w : ℕ). getD (take at (l .t) ++ (b .last .0 ++ drop w (drop at (l .t)))) j 0) (sym long)
+          ∙ splice-zeros (l .t) (b .last .0) at (omega arith) (λ j k. l .inv .2 j (omega arith) (omega arith)) (b .ensures) j (omega arith),
+    )
 
 returns : tie.Need-returns Inv-loop μ-loop
 returns c =
     let l = c .before .loop in
-    all-zero (l .t) λ j.
-    ⊎-elim (λ (e : ltb j 15620 ≡ true). l .inv .2 j (omega (arith, ltb-true j 15620 e))) (λ (e : ltb j 15620 ≡ false). List·getD-eq-default (l .t) 0 (omega (arith, ltb-false j 15620 e))) (true-or-false (ltb j 15620))
+    all-zero (l .t) (zeros-long (l .t) 15620 (omega arith) (λ j h. l .inv .2 j (omega arith) (omega arith)))
 
 pub clear-spec : {M : Type 1} → statement M
 clear-spec =
@@ -41,7 +43,12 @@ clear-spec =
     Inv-loop
     μ-loop
     loop-holds
-    (λ c. search needs)  -- slice-write-t
+    (λ c. search needs)  -- mul-at
+    (λ c. search needs)  -- add-clear-block
+    (λ c. search needs)  -- sub-clear-block
+    (λ c. search needs)  -- part-clear-block-start
+    (λ c. search needs)  -- part-clear-block-end
+    (λ c κs. search needs)  -- clear-block-requires
     (λ c. search needs)  -- add-i
     (λ c. search needs)  -- loop-less
     loop-again

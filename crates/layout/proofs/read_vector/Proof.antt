@@ -3,8 +3,9 @@ use mathlib.Core.Path.{_≡_, sym, _∙_}
 use native.Mathlib.Omega.{arith}
 use lib.ListN.{length}
 use Rattle.clock.specs.Vector.{zeros}
+use Rattle.clock.specs.Map.{upTo}
 use Rattle.clock.specs.Clock.{cells}
-use Rattle.clock.proofs.Cells.{cells-zeros, upTo, upTo-start, upTo-all, fill-next}
+use Rattle.clock.proofs.Cells.{cells-zeros, upTo-start, upTo-all, fill-next}
 use Rattle.layout.specs.State.{clock, vector}
 use Rattle.layout.proofs.Fields.{element, row-past, read-part}
 use borrow.Author.Needs.{needs}

@@ -2,8 +2,9 @@ use Prim.Native.Nat.{_≤_, _-_}
 use mathlib.Core.Path.{_≡_, sym, _∙_}
 use native.Mathlib.Omega.{arith}
 use lib.ListN.{length}
+use Rattle.clock.specs.Map.{upTo}
 use Rattle.clock.specs.Clock.{cells}
-use Rattle.clock.proofs.Cells.{cells-past, upTo, upTo-start, upTo-all, upTo-next}
+use Rattle.clock.proofs.Cells.{cells-past, upTo-start, upTo-all, upTo-next}
 use Rattle.layout.specs.State.{clock, vector}
 use Rattle.layout.proofs.Fields.{element, row-past, write-part}
 use borrow.Author.Needs.{needs}

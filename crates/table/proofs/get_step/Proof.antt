@@ -1,11 +1,10 @@
 use mathlib.Core.Path.{sym, ap, _∙_}
-use Prim.Native.Nat.{ℕ}
 use native.Mathlib.Omega.{arith}
 use Rattle.clock.specs.Map.{_⟨_≔_⟩}
-use Rattle.clock.specs.Vector.{Vector}
 use Rattle.clock.specs.Vector as vectors
 use Rattle.layout.specs.State.{Entry, stateOf, withDepends}
 use Rattle.layout.specs.Records.{entryOf}
+use Rattle.layout.proofs.Places.{row-read}
 use Rattle.table.proofs.Stores.{learn-none, learn-some}
 use borrow.Author.Needs.{needs}
 use Rattle.table.proofs.get_step.Statement.{statement}
@@ -19,24 +18,27 @@ returns c =
 
 note-requires : tie.Need-note-requires
 note-requires c κs =
-    let e = c .before .before .before .before .before .before .before .entry-at .ensures in
-    let start = c .before .before .before .before .before .before .before .before .before .before in
-    let o = start .pre .origin (λ z. c .before .before .before .before .before .before .if1 .left (ap (λ (e : Entry). e .clock) e ∙ z)) in
+    let if1 = c .before .before .before .before .before .before in
+    let e = if1 .before .entry-at .ensures in
+    let o = if1 .before .before .before .before .pre .origin (λ z. if1 .if1 .left (ap (λ (e : Entry). e .clock) e ∙ z)) in
     omega (arith, c .wide-byte .ensures .0, o, ap (λ (e : Entry). e .origin) e)
 
 returns-2 : tie.Need-returns-2
 returns-2 c =
     let note = c .before .before .before .before in
-    let row = note .before .before .before .before .before in
-    let start = row .before .before .before .before .before .before in
-    let e = row .before .before .before .entry-at .ensures in
+    let join = note .before .before in
+    let row = join .before .before .before in
+    let if1 = row .before .before in
+    let entry = if1 .before .entry-at in
+    let start = if1 .before .before .before .before in
     let S = stateOf (start .args .t .now) in
-    let r = ap (λ (f : ℕ → Vector). f (start .args .s)) (row .depends .ensures) in
-    let noted = note .note .ensures ∙ (λ i. vectors.note (note .before .before .join .ensures i) (note .before .wide-byte .ensures .0 i) (row .before .before .before .entry-at .result .clock)) in (
-      e,
+    let s = start .args .s in
+    let er = row-read s (S .depends) (row .depends .ensures) in
+    let noted = note .note .ensures ∙ (λ i. vectors.note (join .join .ensures i) (note .before .wide-byte .ensures .0 i) (entry .result .clock)) in (
+      entry .ensures,
       c .before .before .set-depends .ensures
-          ∙ (λ i. withDepends S (S .depends ⟨ start .args .s ≔ noted i ⟩))
-          ∙ learn-some S (start .args .s) (start .args .x) (entryOf (row .before .before .before .entry-at .result)) _ e (row .before .before .if1 .left) r,
+          ∙ (λ i. withDepends S (S .depends ⟨ s ≔ noted i ⟩))
+          ∙ learn-some S s (start .args .x) (entryOf (entry .result)) _ (entry .ensures) (if1 .if1 .left) er,
     )
 
 pub get-step-spec : {M : Type 1} → statement M
@@ -46,6 +48,7 @@ get-step-spec =
     (λ c κs. search needs)  -- entry-at-requires
     (λ c. search needs)  -- same-length
     returns
+    (λ c. search needs)  -- add-depends
     (λ c κs. search needs)  -- depends-requires
     (λ c. search needs)  -- mul-t16
     (λ c. search needs)  -- array-copy-out-t19

@@ -17,21 +17,20 @@ read-header-requires c κs =
 
 room-refusal-requires : tie.Need-room-refusal-requires
 room-refusal-requires c κs =
-    let told = c .before .before .before in
+    let told = c .before .before in
     let a = told .before .before .before .before .args in
-    let g = get-clear (a .t .now) (a .s) (a .x) (sym (told .before .before .get-refusal .ensures) ∙ ap codeOf (told .enum-told .given .1)) .1 in
-    let n = c .wide-byte .ensures .0 ∙ c .before .before .read-header .ensures .n in
-    omega (arith, g .site, g .sound .sites)
+    let g = get-clear (a .t .now) (a .s) (a .x) (sym (told .before .before .get-refusal .ensures) ∙ ap codeOf (told .enum-told .given .1)) in
+    omega (arith, g .0, g .1 .site, g .1 .sound .sites, c .wide-byte .ensures .0, c .before .read-header .ensures .n)
 
 returns : tie.Need-returns
 unfolding asks refusals put-refusals get-refusals full
 returns c =
-    let told = c .before .before .before .before in
+    let told = c .before .before .before in
     let a = told .before .before .before .before .args in
     let S = stateOf (a .t .now) in
-    let n = c .before .wide-byte .ensures .0 ∙ c .before .before .before .read-header .ensures .n in
+    let n = c .before .wide-byte .ensures .0 ∙ c .before .before .read-header .ensures .n in
     c .room-refusal .ensures
-    ∙ (λ i. first (roomIn (c .before .before .applied .ensures i) (n i) (a .s)))
+    ∙ (λ i. first (roomIn (S .applied) (n i) (a .s)))
     ∙ first-then 0 (asks (a .t .now) (Get (a .s) (a .x))) (roomIn (S .applied) (S .n) (a .s)) (omega arith)
     (sym (told .before .before .get-refusal .ensures) ∙ ap codeOf (told .enum-told .given .1))
 
@@ -50,7 +49,6 @@ put-refusal-spec =
     (λ c κs. search needs)  -- get-refusal-requires
     (λ c. search needs)  -- enum-told
     read-header-requires
-    (λ c κs. read-header-requires (c .before) κs)
     (λ c κs. search needs)  -- wide-byte-requires
     room-refusal-requires
     returns

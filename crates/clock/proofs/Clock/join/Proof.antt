@@ -2,9 +2,10 @@ use mathlib.Core.Path.{_≡_, ap, _∙_}
 use Prim.Native.Nat.{ℕ, _≤_, _-_, max}
 use native.Mathlib.Omega.{arith}
 use lib.ListN.{length}
+use Rattle.clock.specs.Map.{upTo}
 use Rattle.clock.specs.Vector.{join}
 use Rattle.clock.specs.Clock.{cells}
-use Rattle.clock.proofs.Cells.{cells-past, upTo, upTo-start, upTo-from, upTo-all, fill-next}
+use Rattle.clock.proofs.Cells.{cells-past, upTo-start, upTo-from, upTo-all, fill-next}
 use borrow.Author.Needs.{needs}
 use Rattle.clock.proofs.Clock.join.Statement.{statement}
 use Rattle.clock.proofs.Clock.join.Tie as tie
