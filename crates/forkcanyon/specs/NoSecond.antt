@@ -1,16 +1,34 @@
 -- No second outcome: two outcomes that satisfy a call's promise are equal, and one exists. Assumes nothing.
 use mathlib.Core.Path.{_≡_, refl, sym, _∙_}
 use mathlib.Core.List.{List}
-use Prim.Native.Nat.{ℕ}
-use Rattle.rules.specs.Calls.{Call}
+use Prim.Native.Nat.{ℕ, min}
+use Rattle.rules.specs.Calls.{Call, Open, Put, Get, Deliver, Drain}
 use Rattle.forkcanyon.specs.Host.{Hosted, host}
 
 -- the code that a call on the table t and the reply r may return, and the bytes it may leave in both
 abbrev pub Promise : (t r : List ℕ) → Call → Hosted → Type 0
 Promise t r c o = o ≡ host t r c
 
-pub no-second : (t r : List ℕ) (c : Call) (o o′ : Hosted) → Promise t r c o → Promise t r c o′ → o ≡ o′
-no-second t r c o o′ p q = p ∙ sym q
+abbrev pub NoSecond : Call → Type 0
+NoSecond c = (t r : List ℕ) (o o′ : Hosted) → Promise t r c o → Promise t r c o′ → o ≡ o′
 
-pub one : (t r : List ℕ) (c : Call) → (o : Hosted) × Promise t r c o
-one t r c = (host t r c, refl)
+abbrev pub One : Call → Type 0
+One c = (t r : List ℕ) → (o : Hosted) × Promise t r c o
+
+no-second : (c : Call) → NoSecond c × One c
+no-second c = ((λ t r o o′ p q. p ∙ sym q), λ t r. (host t r c, refl))
+
+pub fc-open-no-second : (sites keys : ℕ) → NoSecond (Open sites keys) × One (Open sites keys)
+fc-open-no-second n k = no-second (Open n k)
+
+pub fc-put-no-second : (site key value : ℕ) → NoSecond (Put site key value) × One (Put site key value)
+fc-put-no-second s x v = no-second (Put s x v)
+
+pub fc-get-no-second : (site key : ℕ) → NoSecond (Get site key) × One (Get site key)
+fc-get-no-second s x = no-second (Get s x)
+
+pub fc-deliver-no-second : (site origin : ℕ) → NoSecond (Deliver site origin) × One (Deliver site origin)
+fc-deliver-no-second s o = no-second (Deliver s o)
+
+pub fc-drain-no-second : (site budget : ℕ) → NoSecond (Drain site (min budget 65535)) × One (Drain site (min budget 65535))
+fc-drain-no-second s b = no-second (Drain s (min b 65535))

@@ -14,23 +14,20 @@ NoSecond c = (t : List ℕ) (w w′ : Served) → Promise t c w → Promise t c 
 abbrev pub One : Call → Type 0
 One c = (t : List ℕ) → (w : Served) × Promise t c w
 
-pub no-second : (c : Call) → NoSecond c
-no-second c t w w′ p q = p ∙ sym q
-
-pub one : (c : Call) → One c
-one c t = (serve t c, refl)
+no-second : (c : Call) → NoSecond c × One c
+no-second c = ((λ t w w′ p q. p ∙ sym q), λ t. (serve t c, refl))
 
 pub open-no-second : (n k : ℕ) → NoSecond (Open n k) × One (Open n k)
-open-no-second n k = (no-second (Open n k), one (Open n k))
+open-no-second n k = no-second (Open n k)
 
 pub put-no-second : (s x v : ℕ) → NoSecond (Put s x v) × One (Put s x v)
-put-no-second s x v = (no-second (Put s x v), one (Put s x v))
+put-no-second s x v = no-second (Put s x v)
 
 pub get-no-second : (s x : ℕ) → NoSecond (Get s x) × One (Get s x)
-get-no-second s x = (no-second (Get s x), one (Get s x))
+get-no-second s x = no-second (Get s x)
 
 pub deliver-no-second : (s o : ℕ) → NoSecond (Deliver s o) × One (Deliver s o)
-deliver-no-second s o = (no-second (Deliver s o), one (Deliver s o))
+deliver-no-second s o = no-second (Deliver s o)
 
 pub drain-no-second : (s b : ℕ) → NoSecond (Drain s b) × One (Drain s b)
-drain-no-second s b = (no-second (Drain s b), one (Drain s b))
+drain-no-second s b = no-second (Drain s b)
