@@ -1,4 +1,4 @@
-"""Draws the cost of a call, over the mixes, against sites times keys: fresh tables beside full ones.
+"""Draws the cost of a call, over the mixes, against sites times keys: fresh tables beside half full and full ones.
 
 usage: python3 bench/plot.py FIGURES.tsv > OUT.svg
 """
@@ -8,9 +8,9 @@ import math
 import sys
 from collections import defaultdict
 
-PANEL, HEIGHT, LEFT, GAP, TOP, BOTTOM = 340, 420, 64, 44, 64, 58
+PANEL, HEIGHT, LEFT, GAP, TOP, BOTTOM = 260, 420, 64, 60, 64, 58
 COLOURS = {"Forkcanyon": "#1f6fb2", "the second program": "#b2541f"}
-TABLES = ("fresh", "full")
+TABLES = {"fresh": "fresh", "half": "half full", "full": "full"}
 
 
 def means(rows):
@@ -19,7 +19,7 @@ def means(rows):
     for row in rows:
         if row["mix"] == "1":
             for program, column in zip(COLOURS, ("ours_ns", "twins_ns")):
-                line = (TABLES[int(row["full"])], program, int(row["keys"]))
+                line = (row["table"], program, int(row["keys"]))
                 cells[line, int(row["sites"]) * int(row["keys"])].append(float(row[column]))
     lines = defaultdict(list)
     for (line, size), costs in sorted(cells.items()):
@@ -41,7 +41,7 @@ class Axes:
         self.high = max(math.ceil(math.log10(max(cost for _, cost in points))), self.low + 1)
 
     def place(self, table, size, cost):
-        start = LEFT + TABLES.index(table) * (PANEL + GAP)
+        start = LEFT + list(TABLES).index(table) * (PANEL + GAP)
         along = math.log2(size) / max(math.log2(self.most_size), 1)
         up = (math.log10(cost) - self.low) / (self.high - self.low)
         return start + PANEL * along, HEIGHT - BOTTOM - (HEIGHT - TOP - BOTTOM) * up
@@ -49,7 +49,7 @@ class Axes:
     def panel(self, table):
         left, top = self.place(table, 1, 10**self.high)
         right, bottom = self.place(table, self.most_size, 10**self.low)
-        yield text((left + right) / 2, TOP - 12, f"{table} tables")
+        yield text((left + right) / 2, TOP - 12, f"{TABLES[table]} tables")
         for power in range(self.low, self.high + 1):
             _, y = self.place(table, 1, 10**power)
             yield f'<line x1="{left}" y1="{y:.1f}" x2="{right}" y2="{y:.1f}" stroke="#dddddd"/>'
@@ -81,7 +81,7 @@ def main():
     if not lines:
         raise SystemExit("plot: no mix among the figures")
     axes = Axes(lines)
-    width = LEFT + 2 * PANEL + GAP + 24
+    width = LEFT + len(TABLES) * (PANEL + GAP) - GAP + 24
     parts = [
         f'<svg xmlns="http://www.w3.org/2000/svg" width="{width}" height="{HEIGHT}"'
         f' viewBox="0 0 {width} {HEIGHT}" font-family="sans-serif" font-size="12">',

@@ -10,6 +10,8 @@ enum { ALONE = FC_PLACES / 2, ROUNDS = 6 };
 const char *const scene_names[SCENES] = {"open",  "put",    "get",   "deliver", "drain",
                                          "even",  "reads", "writes", "links"};
 
+const char *const filling_names[FILLINGS] = {"fresh", "half", "full"};
+
 /* How often each call comes up in a mix. */
 static const unsigned mixes[SCENES - FIRST_MIX][KINDS] = {
     {[PUT] = 3, [GET] = 3, [DELIVER] = 3, [DRAIN] = 1},
@@ -33,12 +35,9 @@ static void drain_all(uint8_t *table, unsigned sites)
         must(table, (struct call){DRAIN, site, FC_ENOUGH, 0});
 }
 
-void make_start(uint8_t *table, unsigned sites, unsigned keys, bool full)
+/* Each site in its turn writes every key, and all sites read it: vectors fill up. */
+static void fill(uint8_t *table, unsigned sites, unsigned keys)
 {
-    must(table, (struct call){OPEN, sites, keys, 0});
-    if (!full)
-        return;
-    /* Each site in its turn writes every key, and all sites read it: vectors fill up. */
     for (unsigned turn = 0; turn < ROUNDS * sites; turn++) {
         for (unsigned key = 0; key < keys; key++) {
             must(table, (struct call){PUT, turn % sites, key, turn});
@@ -53,11 +52,34 @@ void make_start(uint8_t *table, unsigned sites, unsigned keys, bool full)
             must(table, (struct call){PUT, site, (site + times) % keys, times});
 }
 
-/* One kind of call, again and again, as many times as the table has room for. */
-static struct scene alone(enum kind kind, unsigned sites, unsigned keys)
+static void half_fill(uint8_t *table, unsigned sites, unsigned keys, struct rng *rng)
 {
-    struct scene scene = {.count = ALONE};
-    for (unsigned at = 0; at < ALONE; at++) {
+    for (unsigned times = 0; 2 * times < keys; times++) {
+        must(table, (struct call){PUT, rng_below(rng, sites), rng_below(rng, keys), times});
+        drain_all(table, sites);
+        must(table, (struct call){GET, rng_below(rng, sites), rng_below(rng, keys), 0});
+    }
+}
+
+unsigned make_starts(uint8_t (*tables)[FC_TABLE_BYTES], enum filling filling, unsigned sites, unsigned keys)
+{
+    unsigned count = filling == HALF ? MOST_TABLES : 1;
+    struct rng rng = {sites * 100 + keys};
+    for (unsigned at = 0; at < count; at++) {
+        must(tables[at], (struct call){OPEN, sites, keys, 0});
+        if (filling == FULL)
+            fill(tables[at], sites, keys);
+        if (filling == HALF)
+            half_fill(tables[at], sites, keys, &rng);
+    }
+    return count;
+}
+
+/* One kind of call, again and again, as many times as the table, or all of them, have room for. */
+static struct scene alone(enum kind kind, enum filling filling, unsigned sites, unsigned keys)
+{
+    struct scene scene = {.count = filling == HALF ? SCENE_CALLS : ALONE};
+    for (unsigned at = 0; at < scene.count; at++) {
         const struct call kinds[KINDS] = {
             [OPEN] = {OPEN, sites, keys, 0},
             [PUT] = {PUT, 0, at % keys, at},
@@ -70,10 +92,10 @@ static struct scene alone(enum kind kind, unsigned sites, unsigned keys)
     return scene;
 }
 
-struct scene make_scene(unsigned which, unsigned sites, unsigned keys)
+struct scene make_scene(unsigned which, enum filling filling, unsigned sites, unsigned keys)
 {
     if (which < FIRST_MIX)
-        return alone((enum kind)which, sites, keys);
+        return alone((enum kind)which, filling, sites, keys);
     struct scene scene = {.count = SCENE_CALLS};
     struct rng rng = {which + 1};
     struct traffic traffic = some_traffic(&rng, sites, keys, 0);

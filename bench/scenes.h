@@ -4,9 +4,12 @@
 
 #include "calls.h"
 
-#include <stdbool.h>
-
 enum { SCENES = 9, FIRST_MIX = 5, SCENE_CALLS = 240 };
+
+/* Fresh: just opened. Full: every key written at every site, each origin with half of its places under way.
+   Half: many tables, called in turns, with about half of the keys written, not the same ones in each. */
+enum filling { FRESH, HALF, FULL, FILLINGS };
+enum { MOST_TABLES = 64 };
 
 struct scene {
     struct call calls[SCENE_CALLS];
@@ -16,9 +19,11 @@ struct scene {
 /* The five calls alone, then the mixes. */
 extern const char *const scene_names[SCENES];
 
-/* Fresh: just opened. Full: every key written at every site, each origin with half of its places under way. */
-void make_start(uint8_t *table, unsigned sites, unsigned keys, bool full);
+extern const char *const filling_names[FILLINGS];
 
-struct scene make_scene(unsigned which, unsigned sites, unsigned keys);
+/* Makes the tables to start from, and says how many there are. */
+unsigned make_starts(uint8_t (*tables)[FC_TABLE_BYTES], enum filling filling, unsigned sites, unsigned keys);
+
+struct scene make_scene(unsigned which, enum filling filling, unsigned sites, unsigned keys);
 
 #endif
