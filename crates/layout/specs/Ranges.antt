@@ -7,6 +7,7 @@ use Rattle.clock.specs.Vector.{Vector}
 use Rattle.layout.specs.Codec.{Codec, row}
 use Rattle.layout.specs.State.{State, Fields, ofEntry, ofUpdate, clock, vector, entry, update}
 
+-- every number is a byte, and every one is 0
 unfoldable pub Bytes : List ℕ → Type 0
 Bytes l = (i : ℕ) → getD l i 0 < 256
 
@@ -17,12 +18,15 @@ Zeros l = (i : ℕ) → getD l i 0 ≡ 0
 abbrev pub Rows : {A : Type 0} → ℕ → Codec A → (A → Type 0) → (ℕ → A) → Type 0
 Rows m c ok a = ((j : ℕ) → j < m → ok (a j)) × ((j : ℕ) → m ≤ j → a j ≡ c .dec [])
 
+-- eight columns of 2 bytes
 abbrev pub FitsVector : Vector → Type 0
 FitsVector v = Rows 8 clock (λ c. c < 256 ^ 2) v
 
+-- 4, 1, 1 and 2 bytes, and a vector
 abbrev pub FitsFields : Fields → Type 0
 FitsFields p = (p .0 < 256 ^ 4) × ((p .1 .0 < 256 ^ 1) × ((p .1 .1 .0 < 256 ^ 1) × ((p .1 .1 .1 .0 < 256 ^ 2) × FitsVector (p .1 .1 .1 .1))))
 
+-- every number of the table within its width
 abbrev pub Fits : State → Type 0
 Fits S =
     (S .n < 256 ^ 1) × ((S .k < 256 ^ 1) × ((S .byte2 < 256 ^ 1) × ((S .byte3 < 256 ^ 1)

@@ -10,6 +10,7 @@ use Rattle.layout.specs.declared.Record.{Record}
 use Rattle.layout.specs.declared.Header.{Header}
 use Rattle.layout.specs.State.{State, Entry, Update, Fields, fields, toEntry, toUpdate}
 
+-- a record of the code as its fields, as an entry and as an update
 abbrev pub fieldsOf : Record → Fields
 fieldsOf r = (r .value, (r .tag, (r .zero, (r .clock, columns (r .depends)))))
 

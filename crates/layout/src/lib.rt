@@ -94,7 +94,7 @@ pub fn read_clock(s: &[u8]) -> u16
     clock_of(s[0], s[1])
 }
 
-pub fn read_value(s: &[u8]) -> u32
+fn read_value(s: &[u8]) -> u32
     requires { ⌜ length (now s) ≡ 4 ⌝ }
     ensures { λ r. ⌜ r ≡ number 4 .dec (now (s .entry)) ⌝ }
 {
@@ -108,14 +108,14 @@ pub fn read_word(s: &[u8]) -> u64
     (read_value(&s[0..4]) as u64) * 4294967296 + (read_value(&s[4..8]) as u64)
 }
 
-pub fn write_byte(s: &mut [u8], v: u8)
+fn write_byte(s: &mut [u8], v: u8)
     requires { ⌜ length (now s) ≡ 1 ⌝ }
     ensures { λ _. ⌜ number 1 .dec (now (s .exit)) ≡ v ⌝ }
 {
     s[0] = v;
 }
 
-pub fn write_clock(s: &mut [u8], v: u16)
+fn write_clock(s: &mut [u8], v: u16)
     requires { ⌜ length (now s) ≡ 2 ⌝ }
     ensures { λ _. ⌜ clock .dec (now (s .exit)) ≡ v ⌝ }
 {
@@ -123,7 +123,7 @@ pub fn write_clock(s: &mut [u8], v: u16)
     s[1] = (v % 256) as u8;
 }
 
-pub fn write_value(s: &mut [u8], v: u32)
+fn write_value(s: &mut [u8], v: u32)
     requires { ⌜ length (now s) ≡ 4 ⌝ }
     ensures { λ _. ⌜ number 4 .dec (now (s .exit)) ≡ v ⌝ }
 {
@@ -133,7 +133,7 @@ pub fn write_value(s: &mut [u8], v: u32)
     s[3] = (v % 256) as u8;
 }
 
-pub fn read_vector(s: &[u8]) -> Clock
+fn read_vector(s: &[u8]) -> Clock
     requires { ⌜ length (now s) ≡ 16 ⌝ }
     ensures { λ r. ⌜ columns r ≡ vector .dec (now (s .entry)) ⌝ }
 {
@@ -147,7 +147,7 @@ pub fn read_vector(s: &[u8]) -> Clock
     Clock { col: a }
 }
 
-pub fn write_vector(s: &mut [u8], c: Clock)
+fn write_vector(s: &mut [u8], c: Clock)
     requires { ⌜ length (now s) ≡ 16 ⌝ }
     ensures { λ _. ⌜ vector .dec (now (s .exit)) ≡ columns c ⌝ }
 {
@@ -161,7 +161,7 @@ pub fn write_vector(s: &mut [u8], c: Clock)
 }
 
 // The rows from `from` on and below `to` of a square of eight rows by eight columns.
-pub fn read_rows(s: &[u8], from: usize, to: usize) -> [[u16; 8]; 8]
+fn read_rows(s: &[u8], from: usize, to: usize) -> [[u16; 8]; 8]
     requires { ⌜ (length (now s) ≡ 128) × (from ≤ to) × (to ≤ 8) ⌝ }
     ensures { λ r. ⌜ cells2 r ≡ rows from to (square .dec (now (s .entry))) ⌝ }
 {
@@ -177,7 +177,7 @@ pub fn read_rows(s: &[u8], from: usize, to: usize) -> [[u16; 8]; 8]
     a
 }
 
-pub fn read_record(s: &[u8]) -> Record
+fn read_record(s: &[u8]) -> Record
     requires { ⌜ length (now s) ≡ 24 ⌝ }
     ensures { λ r. ⌜ fieldsOf r ≡ fieldsAt (now (s .entry)) ⌝ }
 {
@@ -194,7 +194,7 @@ pub fn read_record(s: &[u8]) -> Record
 }
 
 // An entry or an update is written whole.
-pub fn write_record(s: &mut [u8], r: Record)
+fn write_record(s: &mut [u8], r: Record)
     requires { ⌜ length (now s) ≡ 24 ⌝ }
     ensures { λ _. ⌜ fieldsAt (now (s .exit)) ≡ fieldsOf r ⌝ }
 {

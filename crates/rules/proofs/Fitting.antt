@@ -118,8 +118,10 @@ module _ (S : State) (F : Fits S) where
       choice (eqb (S .store s x .clock) 0) Fits (λ e. F) λ e.
       let p : s < 8 = omega (arith, R .site, R .sound .sites) in
       let g = entry-fits S F s x p (omega (arith, R .key, R .sound .keys)) in
-      with-row S F s _ p
-      (note-fits _ _ _ (join-fits _ _ (depends-fits S F s p) (g .1 .1 .1 .1)) (omega (arith, get-origin S s x R (eqb-false _ _ e), R .sound .sites)) (g .1 .1 .1 .0))
+      let w = S .store s x in
+      let o : w .origin < 8 = omega (arith, get-origin S s x R (eqb-false _ _ e), R .sound .sites) in
+      let joined = join (S .depends s) (w .depends) in
+      with-row S F s (note joined (w .origin) (w .clock)) p (note-fits joined (w .origin) (w .clock) (join-fits _ _ (depends-fits S F s p) (g .1 .1 .1 .1)) o (g .1 .1 .1 .0))
 
   deliver-fits : (s o : ℕ) → DeliverReady S s o → Fits (r.deliver S s o .after)
   unfolding r.deliver
