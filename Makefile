@@ -1,6 +1,6 @@
 # make test: the gate
 # make run: document 01's schedule, on the proved program
-# make lib: the proved archive and its header, build/libforkcanyon.a and build/forkcanyon.h
+# make lib: the proved archive for this machine and its header, build/MACHINE/libforkcanyon.a and build/forkcanyon.h
 # make install PREFIX=dir: both there, with a pkg-config file
 # make story: a backup scan seen from far away, here and in a plain replica
 # make play FILE=x.sched: a schedule written as text, beside its answers
@@ -14,8 +14,11 @@ PREFIX ?= /usr/local
 SECONDS ?= 600
 CFLAGS ?= -O2
 STRICT := -std=c11 -Wall -Wextra -Werror -pedantic
-SOURCES := crates.txt $(shell find crates -type f)
-ARCHIVE := target/staticlib/libforkcanyon.a
+# Folders too: theirs is the time at which a file in them went.
+SOURCES := crates.txt $(shell find crates)
+ARCHIVE := build/$(shell uname -m)/libforkcanyon.a
+# LIBRARY=file: another archive to install
+LIBRARY ?= $(ARCHIVE)
 
 help:
 	@grep -hE '^# make ' Makefile | sed 's/^# //'
@@ -23,29 +26,28 @@ help:
 test:
 	@.ci/run
 
-$(ARCHIVE): $(SOURCES)
-	rt staticlib forkcanyon
-	@touch $@
+$(ARCHIVE): $(SOURCES) tools/archive
+	tools/archive
 
 target/bin/run_schedule: $(SOURCES)
 	rt check run_schedule
 	@touch $@
 
 run: target/bin/run_schedule
-	@tools/sched encode docs/scope.sched | target/bin/run_schedule
+	@tools/sched encode docs/scope.sched | tools/run_schedule
 
-lib: $(ARCHIVE)
+lib: $(LIBRARY)
 	@mkdir -p build
-	@install -m 644 $(ARCHIVE) include/forkcanyon.h build
+	@install -m 644 include/forkcanyon.h build
 
 install: lib
 	install -d $(DESTDIR)$(PREFIX)/include $(DESTDIR)$(PREFIX)/lib/pkgconfig
 	install -m 644 build/forkcanyon.h $(DESTDIR)$(PREFIX)/include
-	install -m 644 build/libforkcanyon.a $(DESTDIR)$(PREFIX)/lib
-	sed 's|@PREFIX@|$(PREFIX)|' include/forkcanyon.pc.in >$(DESTDIR)$(PREFIX)/lib/pkgconfig/forkcanyon.pc
+	install -m 644 $(LIBRARY) $(DESTDIR)$(PREFIX)/lib/libforkcanyon.a
+	sed 's|@PREFIX@|$(abspath $(PREFIX))|' include/forkcanyon.pc.in >$(DESTDIR)$(PREFIX)/lib/pkgconfig/forkcanyon.pc
 
 story: lib
-	@$(CC) $(STRICT) $(CFLAGS) -Ibuild examples/backup_scan.c build/libforkcanyon.a -o build/backup_scan
+	@$(CC) $(STRICT) $(CFLAGS) -Ibuild examples/backup_scan.c $(LIBRARY) -o build/backup_scan
 	@build/backup_scan
 
 play: target/bin/run_schedule

@@ -125,7 +125,11 @@ uint32_t fc_get(uint64_t site, uint64_t key,
  * FC_OK: the reply holds the update's key, origin (as site), clock and value, and the site now holds
  * it. What the site depends on does not change until it gets the key.
  * FC_WAITS: the reply's site and clock name the lowest site of which a cause is missing, and its
- * clock: deliver that site's updates up to this clock first.
+ * clock: deliver that site's updates up to this clock first. That can always be done in a table that
+ * was opened and then changed only by these calls. In any other one, sound as it may be, the named
+ * site can be at or above n: then nothing will ever bring what the update waits for, and its
+ * origin's later updates wait behind it until FC_ROOM stops the puts there. Go back to a copy from
+ * before the damage, or open a new table and put into it what fc_get still reads in this one.
  * Refusals: FC_SIZE, FC_UNSOUND, FC_SITE, FC_SAME, FC_NONE, FC_WAITS.
  */
 uint32_t fc_deliver(uint64_t site, uint64_t origin,

@@ -22,7 +22,7 @@ need_made() {
 }
 
 # The library's archive; FORKCANYON_LIB names another one to try.
-library=${FORKCANYON_LIB:-target/staticlib/libforkcanyon.a}
+library=${FORKCANYON_LIB:-build/$(uname -m)/libforkcanyon.a}
 need_library() {
     [ -n "${FORKCANYON_LIB:-}" ] || need_made lib
     [ -f "$library" ] || die "there is no $library"

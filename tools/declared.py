@@ -100,20 +100,63 @@ def closing(text, at):
     return len(text)
 
 
-def promises(text):
-    """The head of each function of an .rt file that requires or ensures something."""
-    text = re.sub(r"//[^\n]*|/\*.*?\*/", " ", text, flags=re.S)
-    text = re.sub(r"b?'(\\.|[^'\\])'", "' '", text)
-    found, places = Names(), [(0, len(text), "")]
+def functions(text):
+    """Each function of an .rt file: its name, the words before fn, what it takes and gives, its clauses."""
+    text = re.sub(r'//[^\n]*|/\*.*?\*/|b"(?:\\.|[^"\\])*"|b?\'(?:\\.|[^\'\\])\'', " ", text, flags=re.S)
+    places = [(0, len(text), "")]
     for item in re.finditer(r"\bimpl\s+(\w+)\s*\{", text):
         places.append((item.end(), closing(text, item.end() - 1), f"{item[1]}::"))
-    for item in re.finditer(r"\bfn\s+(\w+)\s*\(", text):
-        at, promised = item.end(), False
+    for item in re.finditer(r"\bfn\s+(\w+)", text):
+        owner = max(place for place in places if place[0] <= item.start() < place[1])[2]
+        at, taken, clauses = item.end(), None, []
         while (brace := text.find("{", at)) >= 0:
-            if not re.search(r"\b(requires|ensures)\s*$", text[at:brace]):
+            clause = re.search(r"\b(requires|ensures)(?:\s+[\w-]+)?\s*$", text[at:brace])
+            end = at + clause.start() if clause else brace
+            taken = tight(text[item.end() : end]) if taken is None else taken
+            if not clause:
                 break
-            at, promised = closing(text, brace), True
-        if promised:
-            owner = max(place for place in places if place[0] <= item.start() < place[1])[2]
-            found.declare(owner + item[1], tight(text[item.start() : brace]))
+            at = closing(text, brace)
+            clauses.append((clause[1], tight(text[end:at])))
+        words = re.split("[;{}]", text[: item.start()])[-1]
+        yield owner + item[1], tight(words), taken or "", clauses
+
+
+def exported(words):
+    """Whether a function with these words before it can be called from C."""
+    return bool(re.search(r"\b(?:extern|no_mangle|export_name)\b", words))
+
+
+def parameters(taken):
+    """(name, type) for each parameter of what a function takes and gives, and the type of its result."""
+    depth, found, begun = 0, [], 0
+    for at, sign in enumerate(taken):
+        depth += {"(": 1, "[": 1, ")": -1, "]": -1}.get(sign, 0)
+        if sign == "(" and depth == 1:
+            begun = at + 1
+        elif (sign == "," and depth == 1) or (sign == ")" and depth == 0):
+            name, _, width = taken[begun:at].partition(":")
+            if name.strip():
+                found.append((name.split()[-1], tight(width)))
+            begun = at + 1
+            if depth == 0:
+                break
+    return found, taken[begun:].strip().removeprefix("->").strip()
+
+
+def exported_calls(root):
+    """Name to (parameters, result) for each function of the crates that can be called from C."""
+    return {
+        name.split("::")[-1]: parameters(taken)
+        for file in sorted(root.glob("crates/*/src/**/*.rt"))
+        for name, words, taken, _ in functions(file.read_text())
+        if exported(words)
+    }
+
+
+def promises(text):
+    """The head of each function of an .rt file that requires or ensures something."""
+    found = Names()
+    for name, _, taken, clauses in functions(text):
+        if clauses:
+            found.declare(name, " ".join([f"fn {name.split('::')[-1]}{taken}", *(text for _, text in clauses)]))
     return dict(found)

@@ -5,7 +5,7 @@ import subprocess
 from pathlib import Path
 from typing import NamedTuple
 
-PROGRAM = Path(__file__).resolve().parents[1] / "target" / "bin" / "run_schedule"
+PROGRAM = Path(__file__).resolve().parent / "run_schedule"
 
 
 class Line(NamedTuple):
@@ -35,6 +35,8 @@ def print_listing(schedule):
         run = subprocess.run([program], input=schedule, capture_output=True, timeout=60, check=True)
     except FileNotFoundError:
         raise SystemExit(f"there is no {os.path.relpath(program)} (rt check run_schedule)") from None
+    except subprocess.CalledProcessError as failed:
+        raise SystemExit(failed.stderr.decode().strip() or f"{program} has failed") from None
     return run.stdout.decode()
 
 

@@ -1,9 +1,13 @@
-"""The archive needs no heap, no writable global and no symbol that it does not define."""
+"""The archive exports the source's calls, and needs no heap, no writable global and no symbol of others."""
 
 import subprocess
 import sys
+from pathlib import Path
 
-EXPORTED = {"fc_open", "fc_put", "fc_get", "fc_deliver", "fc_drain"}
+ROOT = Path(__file__).resolve().parents[2]
+sys.path.insert(0, str(ROOT / "tools"))
+from declared import exported_calls  # noqa: E402
+
 WRITABLE = (".data", ".bss", ".tdata", ".tbss", ".init_array", ".fini_array")
 
 
@@ -21,7 +25,7 @@ def main():
     symbols = [line.split()[-2:] for line in lines("nm", archive) if len(line.split()) >= 2]
     undefined = {name for kind, name in symbols if kind in "Uwv"}
     defined = {name for kind, name in symbols if kind not in "Uwv"}
-    exported = {name for kind, name in symbols if kind in "TW"}
+    exported = {name for kind, name in symbols if kind.isupper() and kind not in "UN"}
     globals_ = {name for kind, name in symbols if kind in "BbDdCGgSsu"}
     rows = [line.split() for line in lines("size", "-A", archive)]
     sections = [(row[0], int(row[1])) for row in rows if len(row) == 3 and row[1].isdigit()]
@@ -36,8 +40,9 @@ def main():
     print(f"symbols: of others {some(foreign)}")
     print(f"symbols: code {sum(size for name, size in sections if name.startswith('.text'))} bytes")
     faults = []
-    if not EXPORTED <= exported:
-        faults.append(f"not exported: {some(EXPORTED - exported)}")
+    calls = set(exported_calls(ROOT))
+    if exported != calls:
+        faults.append(f"not exported: {some(calls - exported)}; exported beside: {some(exported - calls)}")
     if foreign:
         faults.append(f"needs symbols of others: {some(foreign)}")
     if globals_ or written:

@@ -1,4 +1,5 @@
 // Document 01's cases that are not starred. Each answer is a line: the case, then the answer's five numbers.
+use layout::Table;
 use libc::STDOUT_FILENO;
 use schedule::Schedule;
 use table::Answer;
@@ -47,13 +48,13 @@ fn calls(t: &mut [u8]) {
 }
 
 fn main() {
-    let mut t = [0u8; 15620];
+    let mut t = [0u8; Table::BYTES];
     counts(&mut t);
     alone(&mut t);
     budget(&mut t, 5);
     budget(&mut t, 6);
     // 15,619 bytes answers 1
-    let mut short = [0u8; 15619];
+    let mut short = [0u8; Table::BYTES - 1];
     say(16, table::open(&mut short, 2, 2));
     calls(&mut short);
     // byte 0 set to 9 answers 2

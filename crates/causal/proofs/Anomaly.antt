@@ -1,35 +1,52 @@
--- What the orders shut out: a site that has applied a put without the put that it was made in sight of. Assumes nothing.
+-- Histories that no store may make have no order. Assumes nothing.
 use mathlib.Core.Path.{_≡_, refl}
-use mathlib.Core.List.{List, [], _∷_}
-use mathlib.Core.Logic.{_⊎_, inl, inr}
+use mathlib.Core.List.{[], _∷_}
+use mathlib.Core.Logic.{inl, inr, ⊎-elim, _≢_}
 use Prim.Native.Nat.{ℕ}
 use native.Mathlib.Omega.{arith}
 use Rattle.clock.specs.Lists.{_∈_, Before}
-use Rattle.causal.specs.World.{wrote, put, get, update}
-use Rattle.causal.specs.History.{History, Cause, direct, Op, Ordered}
+use Rattle.causal.specs.World.{never, wrote, put, update}
+use Rattle.causal.specs.History.{History, Cause, Write, op, order}
+use Rattle.causal.specs.Anomalies.{NoOrder, forged, prophecy, Anomalies}
+use Rattle.causal.specs.Worked as worked
 use Rattle.causal.proofs.Sites.{clash}
+use Rattle.causal.proofs.Handed.{not-from-itself}
 
--- 1 gets 0's put and makes its own, which 2 applies: 0's has not come there
-abbrev effect-first : History
-effect-first = update 2 1 1 2 9 ∷ put 1 2 9 1 ∷ get 1 1 (wrote 7 0 1) ∷ update 1 0 1 1 7 ∷ put 0 1 7 1 ∷ []
+not-put : Before forged (put 0 5 99 1) (update 1 0 1 5 99) → ⊥
+not-put (inl (_, inl e)) = let z : _≡_ {A = ℕ} 99 7 = cc in omega arith
+not-put (inl (_, inr e)) = e
+not-put (inr (inl p)) = p .1
+not-put (inr (inr p)) = p
 
-earlier-in : {A : Type 0} (l : List A) (a b : A) → Before l a b → a ∈ l
-earlier-in [] a b h = absurd h
-earlier-in (x ∷ l) a b (inl p) = inr (p .1)
-earlier-in (x ∷ l) a b (inr h) = inr (earlier-in l a b h)
+not-yet : Before prophecy (put 0 5 7 1) (update 1 0 1 5 7) → ⊥
+not-yet (inl p) = clash (cc (p .0))
+not-yet (inr (inl p)) = clash (cc (p .0))
+not-yet (inr (inr (inl p))) = p .1
+not-yet (inr (inr (inr p))) = p
 
-not-come : (x v : ℕ) → (_≡_ {A = ℕ} 0 2) ⊎ (update 2 0 1 x v ∈ effect-first) → ⊥
-not-come x v (inl e) = omega arith
-not-come x v (inr (inl e)) = clash (cc)
-not-come x v (inr (inr (inl e))) = clash (cc)
-not-come x v (inr (inr (inr (inl e)))) = clash (cc)
-not-come x v (inr (inr (inr (inr (inl e))))) = clash (cc)
-not-come x v (inr (inr (inr (inr (inr (inl e)))))) = clash (cc)
-not-come x v (inr (inr (inr (inr (inr (inr e)))))) = e
+-- of two puts, the second is a cause of the first
+late : {h : History} {s : ℕ} (o c x v o′ c′ x′ v′ : ℕ) → order s h ≡ Write o′ c′ x′ v′ ∷ Write o c x v ∷ []
+    → Write o c x v ≢ Write o′ c′ x′ v′ → Cause h o′ c′ o c → NoOrder h s
+late o c x v o′ c′ x′ v′ e other k O = let (x″, v″, b) = O .caused o c x v o′ c′ (rw e (inr (inl refl))) k in go x″ v″ (rw e at b)
+  where
+    go : (x″ v″ : ℕ) → Before (Write o′ c′ x′ v′ ∷ Write o c x v ∷ []) (Write o′ c′ x″ v″) (Write o c x v) → ⊥
+    go x″ v″ (inl p) = other (p .0)
+    go x″ v″ (inr (inl p)) = p .1
+    go x″ v″ (inr (inr p)) = p
 
-pub no-order : (l : List Op) → Ordered effect-first 2 l → ⊥
-no-order l O =
-    let w = O .applied 1 1 2 9 .1 (inr (inl refl), inr (inl refl)) in
-    let c : Cause effect-first 0 1 1 1 = direct (get 1 1 (wrote 7 0 1)) 1 2 9 1 0 1 (inr (inl (refl, inl refl))) (refl, refl, refl) in
-    let b = O .caused 1 1 2 9 0 1 w c in
-    not-come (b .0) (b .1) (O .applied 0 1 (b .0) (b .1) .0 (earlier-in l _ _ (b .2)) .1)
+pub anomalies : Anomalies
+unfolding order op
+anomalies =
+    record {
+      invented = λ O. not-put (O .put-first 0 1 5 99 (inl refl));
+      repeated = λ O. O .once 0 1 5 7 5 7 (inr (inl (refl, inr (inl refl))));
+      own-put = late 0 2 2 9 0 1 1 7 refl (λ e. clash (cc)) worked.own-put;
+      got = late 1 1 2 9 0 1 1 7 refl (λ e. clash (cc)) worked.by-get;
+      deeper = late 2 1 3 4 0 1 1 7 refl (λ e. clash (cc)) worked.of-a-cause;
+      alone = λ O. ⊎-elim (λ p. p .1) (λ p. p) (O .caused 1 1 2 9 0 1 (inl refl) worked.by-get-alone .2);
+      overlooked = λ O. worked.unread (O .reads);
+      unseen = λ O. worked.unread (O .reads .1);
+      too-early = λ O. let e : wrote 7 0 1 ≡ never = O .reads .0 in clash (cc);
+      foretold = λ O. not-yet (O .put-first 0 1 5 7 (inr (inr (inl refl))));
+      from-itself = not-from-itself;
+    }

@@ -8,17 +8,17 @@ use borrow.Author.Tests.{ne-eqb, ltb-true, ltb-false}
 use Rattle.clock.specs.Map.{any}
 use Rattle.clock.proofs.Maps.{both, eq?, true-or-false}
 use Rattle.clock.proofs.Says.{Denies, denies-lt, denies-any}
-use Rattle.layout.specs.State.{State}
+use Rattle.layout.specs.State.{State, lastClock}
 use Rattle.rules.specs.Sound.{sound, Sound}
 use Rattle.rules.specs.Steps as r
 use Rattle.rules.specs.Steps.{Numbers, Outcome}
 use Rattle.rules.specs.Calls.{Call, Put, Get, Deliver, refusals, step, run}
 use Rattle.rules.specs.Refusals.{first, missing, deliver-refusals}
-use Rattle.rules.proofs.Ready.{DeliverReady, put-ready, get-ready, deliver-ready, deliver-nine, deliver-ten}
-use Rattle.rules.specs.Theorems.{LowestMissing}
-use Rattle.rules.proofs.Given.{run-cases, run-refused}
-use Rattle.rules.proofs.Codes.{code-first, missing-named}
-use Rattle.rules.proofs.Keeps.{put-sound, get-sound, deliver-sound}
+use Rattle.laws.proofs.Ready.{DeliverReady, put-ready, get-ready, deliver-ready, deliver-nine, deliver-ten}
+use Rattle.laws.specs.Theorems.{LowestMissing}
+use Rattle.laws.proofs.Given.{run-cases, run-refused}
+use Rattle.laws.proofs.Codes.{code-first, missing-named}
+use Rattle.laws.proofs.Keeps.{put-sound, get-sound, deliver-sound}
 use Rattle.causal.specs.World as w
 use Rattle.causal.specs.World.{World, Answer, Behind, CausesApplied, put, get, update, PUT, GET, UPDATE, withPut, withGet, withUpdate}
 use Rattle.causal.specs.Refines.{Tops, Abstracts, answer, numbers, Steps, Refines, Tells, Follows}
@@ -44,7 +44,7 @@ module _ (S : State) (W : World) (c : Call) {R P : Type 0} (ready : (first (refu
       (run-cases S c)
 
 module _ (S : State) (D : Sound S) (W : World) (A : Abstracts S W) where
-  pub puts : (s x v : ℕ) → Refines S W (Put s x v) ((s < S .n) × (x < S .k) × (S .applied s s ≢ 65535) × ((t : ℕ) → t < S .n → S .applied s s < S .applied t s + 16)) (run S (Put s x v))
+  pub puts : (s x v : ℕ) → Refines S W (Put s x v) ((s < S .n) × (x < S .k) × (S .applied s s ≢ lastClock) × ((t : ℕ) → t < S .n → S .applied s s < S .applied t s + 16)) (run S (Put s x v))
   unfolding refusals step r.put
   puts s x v =
       refines S W (Put s x v) (put-ready S s x) (

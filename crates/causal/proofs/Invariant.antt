@@ -10,22 +10,12 @@ use lib.ListN.{length}
 use borrow.Author.Tests.{eqb-true, eq-eqb}
 use Rattle.clock.specs.Map.{if_then_else_, _⟨_≔_⟩}
 use Rattle.clock.proofs.Maps.{choice, at-same, at-other}
-use Rattle.causal.specs.World.{Set, just, _∪_, Answer, never, wrote, Entry, World, nth, due, waiting, learned, withGet, withUpdate, Behind, CausesApplied, Event, put, get, update}
+use Rattle.causal.specs.World.{Set, just, _∪_, Answer, never, wrote, Entry, World, nth, due, waiting, learned, withGet, withUpdate, Behind, CausesApplied, Event, put, get, update, start}
 use Rattle.clock.specs.Lists.{_∈_, Before}
-use Rattle.causal.specs.History.{History, Saw, Op, Write, Read}
-use Rattle.causal.proofs.Sites.{clash, named, start, Updates, Issued, Closed, Stored, Site, _↑_, up-more, write-site, read-site}
+use Rattle.causal.specs.History.{History, Saw, Write, Read, op, order}
+use Rattle.causal.proofs.Sites.{clash, named, Updates, Issued, Closed, Stored, Site, _↑_, up-more, write-site, read-site}
 
 -- ## The run
-
--- the order at a site: its events, as they came
-unfoldable pub op : ℕ → Event → List Op
-op s (put t x v c) = if eqb t s then Write t c x v ∷ [] else []
-op s (get t x a) = if eqb t s then Read x a ∷ [] else []
-op s (update t o c x v) = if eqb t s then Write o c x v ∷ [] else []
-
-unfoldable pub order : ℕ → History → List Op
-order s [] = []
-order s (e ∷ h) = op s e ++ order s h
 
 -- each put of `h` depends on earlier puts of `h` alone
 unfoldable pub Past : Updates → History → Type 0

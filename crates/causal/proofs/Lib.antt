@@ -1,4 +1,6 @@
 pub mod Sites
+pub mod Handed
+pub mod Anomaly
 pub mod Invariant
 pub mod Puts
 pub mod Orders
@@ -8,4 +10,4 @@ pub mod Related
 pub mod Meaning
 pub mod Following
 pub mod Tracing
-pub mod Anomaly
+pub mod Counted

@@ -12,7 +12,8 @@ use Rattle.causal.specs.History.{CausalRun, History, Lacks}
 use Rattle.causal.proofs.Sites.{clash, Issued}
 use Rattle.causal.proofs.Invariant.{Past, Inv, issued, put-inj}
 use Rattle.causal.proofs.Puts.{inv}
-use Rattle.causal.proofs.Orders.{safety, came, put-site-below}
+use Rattle.causal.proofs.Handed.{came}
+use Rattle.causal.proofs.Orders.{safety, put-site-below}
 
 -- the site has applied each put of `h`
 abbrev All : World → ℕ → History → Type 0

@@ -12,9 +12,9 @@ use Rattle.clock.specs.Map.{if_then_else_, _⟨_≔_⟩}
 use Rattle.clock.proofs.Maps.{choice, at-same}
 use Rattle.causal.specs.World.{∅, just, _∪_, Update, wrote, Entry, World, nth, withPut, Event, put, get, update, PUT, GET, UPDATE, Run, begin, more}
 use Rattle.clock.specs.Lists.{_∈_, Before}
-use Rattle.causal.specs.History.{History, Saw, Write}
+use Rattle.causal.specs.History.{History, Saw, Write, op, order}
 use Rattle.causal.proofs.Sites.{next, later-in, Updates, Issued, Closed, Extends, closed-more, Stored, Site, _↑_, le-suc-cases, up-more, write-site, more-site, extends, newest, later-in}
-use Rattle.causal.proofs.Invariant.{op, order, Past, Inv, grow-old, grow-new, at-just, put-top, inv-start, inv-get, inv-update, issued, put-inj}
+use Rattle.causal.proofs.Invariant.{Past, Inv, grow-old, grow-new, at-just, put-top, inv-start, inv-get, inv-update, issued, put-inj}
 
 past-more : (u v : Updates) (h : History) → Extends u v → ((o x w c : ℕ) → put o x w c ∈ h → Issued u o c) → Past u h → Past v h
 unfolding Past

@@ -15,8 +15,8 @@ use Rattle.layout.specs.State.{State, Entry, Update, withDepends}
 use Rattle.rules.specs.Sound.{place, Retained, Sound}
 use Rattle.rules.specs.Steps as r
 use Rattle.rules.specs.Steps.{learn}
-use Rattle.rules.proofs.Ready.{PutReady, GetReady, DeliverReady}
-use Rattle.rules.proofs.Keeps.{deliver-own, deliver-behind, deliver-retained, get-origin, put-retained, put-stands}
+use Rattle.laws.proofs.Ready.{PutReady, GetReady, DeliverReady}
+use Rattle.laws.proofs.Keeps.{deliver-own, deliver-behind, deliver-retained, get-origin, put-retained, put-stands}
 use Rattle.causal.specs.World as w
 use Rattle.causal.specs.World.{Set, ∅, just, _∪_, World, Answer, never, wrote, nth, learned, withPut, withGet, withUpdate, Behind, CausesApplied}
 use Rattle.causal.specs.Refines.{Tops, answer, Abstracts}

@@ -35,10 +35,6 @@ blank = record { key = 0; value = 0; depends = ∅ }
 abbrev pub next : World → (s : ℕ) → ℕ
 next W s = suc (length (W .updates s))
 
--- before any call
-abbrev pub start : World
-start = record { depends = λ s. ∅; updates = λ s. []; applied = λ s o. 0; store = λ s x. record { answer = never; depends = ∅ } }
-
 -- the put that an answer names
 abbrev pub named : Answer → Set
 named never = ∅

@@ -17,20 +17,20 @@ use Rattle.rules.specs.Steps.{Numbers, Outcome, opened}
 use Rattle.rules.specs.Drain.{drained, drain}
 use Rattle.rules.specs.Calls.{Call, Open, Put, Get, Deliver, Drain, refusals, step, run}
 use Rattle.rules.specs.Refusals.{first}
-use Rattle.rules.specs.Theorems.{Delivers, start, one-more}
-use Rattle.rules.proofs.Ready.{OpenReady, open-ready, drain-ready}
-use Rattle.rules.proofs.Given.{run-cases, run-accepted, run-refused, first-clear, ascends}
-use Rattle.rules.proofs.Keeps.{open-sound}
-use Rattle.rules.proofs.Draining.{drained-code, drain-delivers}
-use Rattle.rules.proofs.Turns.{drain-ends}
-use Rattle.rules.proofs.Codes.{spent-exactly}
-use Rattle.rules.proofs.After.{counts-kept}
+use Rattle.laws.specs.Theorems.{Delivers, start, one-more}
+use Rattle.laws.proofs.Ready.{OpenReady, open-ready, drain-ready}
+use Rattle.laws.proofs.Given.{run-cases, run-accepted, run-refused, first-clear, ascends}
+use Rattle.laws.proofs.Keeps.{open-sound}
+use Rattle.laws.proofs.Draining.{drained-code, drain-delivers}
+use Rattle.laws.proofs.Turns.{drain-ends}
+use Rattle.laws.proofs.Codes.{spent-exactly}
+use Rattle.laws.proofs.After.{counts-kept}
 use Rattle.causal.specs.World.{World, Event, put, update, Run, begin, more}
 use Rattle.causal.specs.History.{History, Lacks}
 use Rattle.causal.specs.Refines.{Abstracts, answer, Refines, after-call, Causal}
 use Rattle.causal.proofs.Meaning.{open-abstracts}
 use Rattle.causal.proofs.Following.{puts, gets, delivers}
-use Rattle.causal.proofs.Orders.{in-right}
+use Rattle.causal.proofs.Handed.{in-right}
 use Rattle.causal.proofs.Progress.{run-causal}
 use Rattle.causal.proofs.Sites.{clash}
 
@@ -157,7 +157,7 @@ traced-drains {S} {h} T s b o x v c z q l =
     drain-ends S s b (subst (λ (x : Outcome). x .answer .code ≡ 0) (k .1) z) (e .0) (e .1)
 
 pub traced-causal : {S : State} {h : History} → Traced S h → Causal S (λ c. run S c .answer) h
-traced-causal {S} {h} T = record { orders = λ s p. run-causal (T .leads) .orders s; live = traced-live T; drains = traced-drains T }
+traced-causal {S} {h} T = record { runs = (T .world, T .leads, T .related); orders = λ s p. run-causal (T .leads) .orders s; live = traced-live T; drains = traced-drains T }
 
 -- ## Any calls
 

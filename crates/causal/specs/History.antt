@@ -1,6 +1,6 @@
 -- Causal consistency of a history, worked out from its events alone. Assumes nothing.
 use mathlib.Core.Path.{_≡_}
-use mathlib.Core.List.{List, [], _∷_}
+use mathlib.Core.List.{List, [], _∷_, _++_}
 use mathlib.Core.Logic.{_⊎_, _↔_, _≢_}
 use Prim.Native.Nat.{ℕ, _<_}
 use lib.Dec.{eqb}
@@ -41,31 +41,33 @@ Reads [] = Unit {0}
 Reads (Write o c y v ∷ l) = Reads l
 Reads (Read x a ∷ l) = (a ≡ lookup x l) × Reads l
 
--- site s's own puts and gets, in a history and in an order
-abbrev pub calls : ℕ → History → List Op
-calls s [] = []
-calls s (put t x v c ∷ h) = if eqb t s then Write t c x v ∷ calls s h else calls s h
-calls s (get t x a ∷ h) = if eqb t s then Read x a ∷ calls s h else calls s h
-calls s (update t o c x v ∷ h) = calls s h
+-- the order of site s: its gets and the puts applied there, its own and those it was handed, as they came, the newest first
+unfoldable pub op : ℕ → Event → List Op
+op s (put t x v c) = if eqb t s then Write t c x v ∷ [] else []
+op s (get t x a) = if eqb t s then Read x a ∷ [] else []
+op s (update t o c x v) = if eqb t s then Write o c x v ∷ [] else []
 
-abbrev pub own : ℕ → List Op → List Op
-own s [] = []
-own s (Write o c x v ∷ l) = if eqb o s then Write o c x v ∷ own s l else own s l
-own s (Read x a ∷ l) = Read x a ∷ own s l
+unfoldable pub order : ℕ → History → List Op
+order s [] = []
+order s (e ∷ h) = op s e ++ order s h
 
--- l orders, newest first, the gets of site s and the puts applied there
-pub record Ordered (h : History) (s : ℕ) (l : List Op) : Type 0 where
-  -- its own calls stand in the order in which they were made
-  pub mine : own s l ≡ calls s h
-  -- its puts are exactly those that it made or applied
-  pub applied : (o c x v : ℕ) → (Write o c x v ∈ l) ↔ ((put o x v c ∈ h) × ((o ≡ s) ⊎ (update s o c x v ∈ h)))
-  -- none stands twice
-  pub once : (o c x v x′ v′ : ℕ) → Before l (Write o c x v) (Write o c x′ v′) → ⊥
+-- that order is as it must be
+pub record Ordered (h : History) (s : ℕ) : Type 0 where
+  -- what it was handed was put before
+  pub put-first : (o c x v : ℕ) → update s o c x v ∈ h → Before h (put o x v c) (update s o c x v)
+  -- no put stands twice
+  pub once : (o c x v x′ v′ : ℕ) → Before (order s h) (Write o c x v) (Write o c x′ v′) → ⊥
   -- each stands after its causes
-  pub caused : (o c x v o′ c′ : ℕ) → Write o c x v ∈ l → Cause h o′ c′ o c
-      → (x′ : ℕ) × (v′ : ℕ) × Before l (Write o′ c′ x′ v′) (Write o c x v)
+  pub caused : (o c x v o′ c′ : ℕ) → Write o c x v ∈ order s h → Cause h o′ c′ o c
+      → (x′ : ℕ) × (v′ : ℕ) × Before (order s h) (Write o′ c′ x′ v′) (Write o c x v)
   -- each get answers as a single ordinary table would
-  pub reads : Reads l
+  pub reads : Reads (order s h)
+
+-- "exactly the puts applied there": those that were made, by the site itself or handed to it
+abbrev pub AppliedExactly : Type 0
+AppliedExactly =
+    (h : History) (s : ℕ) → Ordered h s → (o c x v : ℕ)
+    → (Write o c x v ∈ order s h) ↔ ((put o x v c ∈ h) × ((o ≡ s) ⊎ (update s o c x v ∈ h)))
 
 -- site s lacks the put (o, c)
 abbrev pub Lacks : History → (s o c : ℕ) → Type 0
@@ -73,5 +75,5 @@ Lacks h s o c = (o ≢ s) × ((x v : ℕ) → update s o c x v ∈ h → ⊥)
 
 -- what every run of figure 7 has; where a site lacks a put, some update is enabled there
 pub record CausalRun (n : ℕ) (h : History) (W : World) : Type 0 where
-  pub orders : (s : ℕ) → (l : List Op) × Ordered h s l
+  pub orders : (s : ℕ) → Ordered h s
   pub live : (s o x v c : ℕ) → put o x v c ∈ h → Lacks h s o c → (o′ : ℕ) × (o′ < n) × (s ≢ o′) × Behind W s o′ × CausesApplied W s o′

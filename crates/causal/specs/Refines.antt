@@ -9,13 +9,13 @@ use lib.ListN.{length}
 use Rattle.clock.specs.Map.{if_then_else_}
 use Rattle.clock.specs.Lists.{_∈_}
 use Rattle.clock.specs.Vector.{Vector, join, note}
-use Rattle.layout.specs.State.{State}
+use Rattle.layout.specs.State.{State, lastClock}
 use Rattle.rules.specs.Sound.{place, Retained, Sound}
 use Rattle.rules.specs.Steps.{Numbers, done, Outcome}
 use Rattle.rules.specs.Drain.{drained}
 use Rattle.rules.specs.Calls.{Call, Open, Put, Get, Deliver, Drain}
-use Rattle.causal.specs.World.{Set, just, _∪_, Answer, never, wrote, World, nth, waiting, Behind, CausesApplied, Event, put, get, update, Step}
-use Rattle.causal.specs.History.{History, Op, Ordered, Lacks}
+use Rattle.causal.specs.World.{Set, just, _∪_, Answer, never, wrote, World, nth, waiting, Behind, CausesApplied, Event, put, get, update, Step, Run}
+use Rattle.causal.specs.History.{History, Ordered, Lacks}
 
 -- "the greatest clock in the set, and 0 when there is none", for each site, over all eight columns
 pub record Tops (v : Vector) (d : Set) : Type 0 where
@@ -23,9 +23,13 @@ pub record Tops (v : Vector) (d : Set) : Type 0 where
   pub above : (o c : ℕ) → d o c → c ≤ v o
   pub met : (o : ℕ) → o < 8 → (v o ≡ 0) ⊎ d o (v o)
 
+-- v is at most a in each of the eight columns
+abbrev pub Within : Vector → Vector → Type 0
+Within v a = (j : ℕ) → j < 8 → v j ≤ a j
+
 -- "the two give the same answers": to UPDATE's check, to which sites fail it, and after a put and a get
 pub record SameAnswers (v : Vector) (d : Set) : Type 1 where
-  pub check : (a : Vector) → ((o c : ℕ) → d o c → c ≤ a o) ↔ ((j : ℕ) → j < 8 → v j ≤ a j)
+  pub check : (a : Vector) → ((o c : ℕ) → d o c → c ≤ a o) ↔ Within v a
   pub fails : (a : Vector) (j : ℕ) → j < 8 → ((c : ℕ) × d j c × (a j < c)) ↔ (a j < v j)
   pub noted : (o c : ℕ) → o < 8 → Tops (note v o c) (d ∪ just o c)
   pub joined : (w : Vector) (e : Set) → Tops w e → Tops (join v w) (d ∪ e)
@@ -86,17 +90,25 @@ pub record Tells (S : State) (W : World) (s o : ℕ) (a : Numbers) : Type 0 wher
 -- a call is accepted exactly when names, room (clocks to 65,535, sixteen places for each origin) and figure 7 allow it
 pub record Follows (S : State) (W : World) (result : Call → Outcome) : Type 1 where
   pub puts : (s x v : ℕ) → v < 256 ^ 4 → Refines S W (Put s x v)
-      ((s < S .n) × (x < S .k) × (S .applied s s ≢ 65535) × ((t : ℕ) → t < S .n → S .applied s s < S .applied t s + 16)) (result (Put s x v))
+      ((s < S .n) × (x < S .k) × (S .applied s s ≢ lastClock) × ((t : ℕ) → t < S .n → S .applied s s < S .applied t s + 16)) (result (Put s x v))
   pub gets : (s x : ℕ) → Refines S W (Get s x) ((s < S .n) × (x < S .k)) (result (Get s x))
   pub delivers : (s o : ℕ) → Refines S W (Deliver s o) ((s < S .n) × (o < S .n) × (s ≢ o) × Behind W s o × CausesApplied W s o) (result (Deliver s o))
   pub tells : (s o : ℕ) → Tells S W s o (result (Deliver s o) .answer)
 
 -- a table that answers calls so, and the history of its calls since it was opened
-pub record Causal (S : State) (answers : Call → Numbers) (h : History) : Type 0 where
-  -- each site has an order of its gets and of the puts applied there
-  pub orders : (s : ℕ) → s < S .n → (l : List Op) × Ordered h s l
+pub record Causal (S : State) (answers : Call → Numbers) (h : History) : Type 1 where
+  -- the history is a run of figure 7, of n sites and k keys, and the table has its world
+  pub runs : (W : World) × Run (S .n) (S .k) h W × Abstracts S W
+  -- each site has its order
+  pub orders : (s : ℕ) → s < S .n → Ordered h s
   -- while a site lacks an accepted put, some delivery to it is accepted
   pub live : (s o x v c : ℕ) → s < S .n → put o x v c ∈ h → Lacks h s o c → (o′ : ℕ) × (answers (Deliver s o′) .code ≡ 0)
   -- a drain that answers 0 has left its site holding every accepted put
   pub drains : (s b o x v c : ℕ) → answers (Drain s b) .code ≡ 0 → put o x v c ∈ h
       → Lacks (after-call S (Drain s b) (answers (Drain s b)) h) s o c → ⊥
+
+-- so each put of the history is one that the table counts
+abbrev pub PutsCounted : Type 1
+PutsCounted =
+    (S : State) (answers : Call → Numbers) (h : History) → Causal S answers h → (o x v c : ℕ) → put o x v c ∈ h
+    → (o < S .n) × (1 ≤ c) × (c ≤ S .applied o o)

@@ -105,7 +105,11 @@ pub data Step (n k : ℕ) (W : World) : Event → World → Type 1 where
   UPDATE : (s o : ℕ) → s < n → o < n → s ≢ o → Behind W s o → CausesApplied W s o
       → Step n k W (update s o (due W s o) (waiting W s o .key) (waiting W s o .value)) (withUpdate W s o)
 
+-- before any step
+abbrev pub start : World
+start = record { depends = λ s. ∅; updates = λ s. []; applied = λ s o. 0; store = λ s x. record { answer = never; depends = ∅ } }
+
 -- the steps from the start to W have the labels h, the newest first
 pub data Run (n k : ℕ) : List Event → World → Type 1 where
-  begin : Run n k [] (record { depends = λ s. ∅; updates = λ s. []; applied = λ s o. 0; store = λ s x. record { answer = never; depends = ∅ } })
+  begin : Run n k [] start
   more : {h : List Event} {W W′ : World} {e : Event} → Run n k h W → Step n k W e W′ → Run n k (e ∷ h) W′

@@ -8,7 +8,7 @@ use Rattle.clock.specs.declared.Compared.the-variants.{Within, Beyond}
 use Rattle.clock.specs.Map.{if_then_else_, any, least}
 use Rattle.clock.specs.Vector.{Vector, beyond}
 use Rattle.clock.specs.Clock.{lowest-beyond, compare}
-use Rattle.clock.proofs.Below.{any-found, any-none, least-at}
+use Rattle.clock.proofs.Below.{any-denies, any-found, least-at}
 
 module _ (v w : Vector) where
   pub is-beyond : (i : ℕ) → i < 8 → w i < v i → ((j : ℕ) → j < i → beyond v w j ≡ false) → Beyond i (v i) ≡ compare v w
@@ -19,7 +19,7 @@ module _ (v w : Vector) where
 
   pub is-within : ((j : ℕ) → j < 8 → beyond v w j ≡ false) → Within ≡ compare v w
   unfolding compare
-  is-within f = rw (any-none (beyond v w) 8 f)
+  is-within f = rw (any-denies (beyond v w) 8 .1 f)
 
   -- what is known of the columns once a comparison has answered
   pub found-within : compare v w ≡ Within → any 8 (beyond v w) ≡ false

@@ -1,5 +1,5 @@
 pub mod Maps
-pub mod Below
 pub mod Says
+pub mod Below
 pub mod Cells
 pub mod Compares

@@ -16,10 +16,6 @@ pub true-or-false : (t : Bool) → (t ≡ true) ⊎ (t ≡ false)
 true-or-false true = inl refl
 true-or-false false = inr refl
 
-pub same-test : (s t : Bool) → (s ≡ true → t ≡ true) → (t ≡ true → s ≡ true) → s ≡ t
-same-test true t f g = sym (f refl)
-same-test false t f g = ⊎-elim (λ k. both (g k) refl) sym (true-or-false t)
-
 -- what holds on both ways of a test holds of the choice
 pub choice {ℓ κ} : {A : Type ℓ} (t : Bool) (P : A → Type κ) {a b : A} → (t ≡ true → P a) → (t ≡ false → P b) → P (if t then a else b)
 choice true P f g = f refl

@@ -1,3 +1,4 @@
 pub mod Serving
+pub mod Drained
 pub mod Proved
 pub mod Schedule

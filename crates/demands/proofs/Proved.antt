@@ -14,21 +14,22 @@ use Rattle.layout.proofs.TableTrips.{bytes-back, state-back}
 use Rattle.rules.specs.Steps.{Numbers, Outcome, refused, opened}
 use Rattle.rules.specs.Refusals.{first, open-refusals, put-refusals, get-refusals, deliver-refusals, drain-refusals}
 use Rattle.rules.specs.Calls.{Call, Open, Put, Get, Deliver, Drain, refusals, step, run, asks, Served, serve}
-use Rattle.rules.specs.Theorems.{Clear}
-use Rattle.rules.proofs.Ready.{OpenReady}
-use Rattle.rules.proofs.Given.{Ascends, first-given, first-clear, ascends, run-accepted}
-use Rattle.rules.proofs.Codes.{code-first, accepted-exactly, spent-exactly, refused-keeps, refused-zeros, open-accepted}
+use Rattle.laws.specs.Theorems.{Clear}
+use Rattle.laws.proofs.Ready.{OpenReady}
+use Rattle.laws.proofs.Given.{Ascends, first-given, first-clear, ascends, run-accepted}
+use Rattle.laws.proofs.Codes.{code-first, accepted-exactly, spent-exactly, refused-keeps, refused-zeros, open-accepted}
 use Rattle.causal.specs.World.{World}
 use Rattle.causal.specs.History.{History}
 use Rattle.causal.specs.Refines.{Abstracts, Refines, Tells, Follows, Causal}
 use Rattle.causal.proofs.Meaning.{meaning, meaning-abstracts}
 use Rattle.causal.proofs.Following.{follows}
 use Rattle.causal.proofs.Tracing.{played, played-causal}
-use Rattle.demands.specs.Demands.{Answered, Demand1, Demand2, Demand3}
+use Rattle.demands.specs.Demands.{none, Answered, Demand1, Demand2, Demand3}
 use Rattle.layout.proofs.Whole.{state-bytes}
-use Rattle.rules.proofs.Fitting.{Sized, put-sized, get-sized, deliver-sized, open-fits}
-use Rattle.rules.proofs.Outcomes.{outcome, served, serve-long, serve-short, outcome-is}
+use Rattle.laws.proofs.Fitting.{Sized, put-sized, get-sized, deliver-sized, open-fits}
+use Rattle.laws.proofs.Outcomes.{outcome, served, serve-long, serve-short, outcome-is}
 use Rattle.demands.proofs.Serving.{serve-state, play-is}
+use Rattle.demands.proofs.Drained.{drain-bytes}
 
 -- ## Demand 1
 
@@ -68,8 +69,9 @@ module _ (t : List ℕ) (c : Call) where
         accepted =
             Iff·trans (accepted-exactly (stateOf t) c) ((λ p. (clear-long h .0 (p .0), p .1)), λ p. (clear-long h .1 (p .0), p .1));
         spent = Iff·trans (spent-exactly (stateOf t) c) ((λ p. (clear-long h .0 (p .0), p .1)), λ p. (clear-long h .1 (p .0), p .1));
-        keeps = λ z y. ap bytesOf (refused-keeps (stateOf t) c z y) ∙ bytes-back t h b;
+        keeps = λ z y. ap bytesOf (refused-keeps (stateOf t) c z (omega arith)) ∙ bytes-back t h b;
         zeros = refused-zeros (stateOf t) c;
+        delivered = λ s d e. rw e (drain-bytes t b h s d);
         whole = let w = state-bytes (run (stateOf t) c .after) in (w .0 ∙ sym h, w .1);
       }
 
@@ -83,6 +85,7 @@ module _ (t : List ℕ) (c : Call) where
         spent = ((λ z. absurd (omega arith)), λ p. absurd (not-clear (p .0)));
         keeps = λ z y. refl;
         zeros = λ e z y x q. ap refused q;
+        delivered = λ s d e. none;
         whole = (refl, b);
       }
 
@@ -138,6 +141,6 @@ pub demand3 : Demand3
 demand3 t n k z cs h =
     let o = opens t n k z in
     let R = o .0 in
-    let p = play-is (opened n k) (open-fits n k R) [] cs h in
+    let p = play-is (opened n k) (open-fits n k R) [] cs (λ s x v m. omega (arith, h s x v m)) in
     let q = played (opened n k) [] cs in
     rw (o .1, p .1) (on-bytes (q .0) (p .0) (q .1) (played-causal n k R cs))

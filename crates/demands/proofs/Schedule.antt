@@ -10,26 +10,18 @@ use Rattle.layout.specs.State.{table, stateOf}
 use Rattle.rules.specs.Steps.{opened}
 use Rattle.rules.specs.Calls.{Call, Open, Put, Get, Deliver, Drain, Served, serve}
 use Rattle.rules.specs.Cases.{rules}
-use Rattle.rules.proofs.Codes.{open-accepted}
+use Rattle.laws.proofs.Codes.{open-accepted}
 use Rattle.causal.specs.World.{wrote, put, get, update}
 use Rattle.causal.specs.History.{History, Cause, direct}
 use Rattle.causal.specs.Refines.{Causal}
 use Rattle.causal.proofs.Tracing.{played}
 use Rattle.demands.specs.Demands.{play}
-use Rattle.rules.proofs.Fitting.{open-fits}
-use Rattle.rules.proofs.Outcomes.{serve-long}
+use Rattle.demands.specs.Schedule.{schedule, by-hand}
+use Rattle.laws.proofs.Fitting.{open-fits}
+use Rattle.laws.proofs.Outcomes.{serve-long}
 use Rattle.demands.proofs.Serving.{play-is}
 use Rattle.demands.proofs.Proved.{opens, demand3}
 use Rattle.causal.proofs.Sites.{clash}
-
-pub schedule : List Call
-schedule = Put 0 1 7 ∷ Deliver 1 0 ∷ Get 1 1 ∷ Put 1 2 9 ∷ Deliver 2 1 ∷ Drain 2 903 ∷ Get 2 1 ∷ []
-
--- step 5 is refused; the drain of step 6 delivers 0's put and then 1's; the newest stands first
-pub by-hand : History
-by-hand =
-    get 2 1 (wrote 7 0 1) ∷ update 2 1 1 2 9 ∷ update 2 0 1 1 7
-    ∷ put 1 2 9 1 ∷ get 1 1 (wrote 7 0 1) ∷ update 1 0 1 1 7 ∷ put 0 1 7 1 ∷ []
 
 -- 0's put is a cause of 1's, which answered it before
 caused : Cause by-hand 0 1 1 1

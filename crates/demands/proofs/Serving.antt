@@ -12,8 +12,8 @@ use Rattle.causal.specs.History.{History}
 use Rattle.causal.specs.Refines.{after-call}
 use Rattle.causal.proofs.Tracing.{played}
 use Rattle.demands.specs.Demands.{play}
-use Rattle.rules.proofs.Outcomes.{served, serve-long}
-use Rattle.rules.proofs.Fitting.{run-fits}
+use Rattle.laws.proofs.Outcomes.{served, serve-long}
+use Rattle.laws.proofs.Fitting.{run-fits}
 
 module _ (S : State) (F : Fits S) where
   pub serve-state : (c : Call) → serve (bytesOf S) c ≡ served (run S c)

@@ -2,18 +2,24 @@
 use mathlib.Core.Path.{_≡_}
 use mathlib.Core.List.{List, [], _∷_}
 use mathlib.Core.Logic.{_↔_, _≢_}
-use Prim.Native.Nat.{ℕ, _^_, _<_}
+use Prim.Native.Nat.{ℕ, suc, _^_, _<_}
 use lib.ListN.{length}
 use Rattle.clock.specs.Lists.{_∈_}
 use Rattle.layout.specs.State.{table, stateOf}
 use Rattle.layout.specs.Ranges.{Bytes}
 use Rattle.rules.specs.Sound.{Sound}
 use Rattle.rules.specs.Steps.{refused}
-use Rattle.rules.specs.Calls.{Call, Open, Put, asks, Served, serve}
-use Rattle.rules.specs.Theorems.{Given, Clear, Enough, Spent}
+use Rattle.rules.specs.Calls.{Call, Open, Put, Deliver, Drain, asks, Served, serve}
+use Rattle.laws.specs.Theorems.{Given, Clear, Enough, Spent}
 use Rattle.causal.specs.World.{World}
 use Rattle.causal.specs.History.{History}
 use Rattle.causal.specs.Refines.{Abstracts, Follows, after-call, Causal}
+
+-- deliveries to site s, one after another and each of them accepted, lead from the bytes t to others: so many
+pub data Delivered (s : ℕ) (t : List ℕ) : ℕ → List ℕ → Type 0 where
+  none : Delivered s t 0 t
+  next : {m : ℕ} {u : List ℕ} → Delivered s t m u → (o : ℕ) → serve u (Deliver s o) .answer .code ≡ 0
+      → Delivered s t (suc m) (serve u (Deliver s o) .bytes)
 
 -- a call on a buffer, under document 01's conditions in order, the size of the buffer first
 pub record Answered (t : List ℕ) (c : Call) (r : Served) : Type 0 where
@@ -25,12 +31,18 @@ pub record Answered (t : List ℕ) (c : Call) (r : Served) : Type 0 where
   -- every refusal but 11 leaves the bytes, and but 10 and 11 answers zeros beside its code
   pub keeps : r .answer .code ≢ 0 → r .answer .code ≢ 11 → r .bytes ≡ t
   pub zeros : (e : ℕ) → e ≢ 0 → e ≢ 10 → e ≢ 11 → r .answer .code ≡ e → r .answer ≡ refused e
+  -- under 11 too, what a drain delivered stays and nothing else changed: as many deliveries as it answers lead to its bytes
+  pub delivered : (s b : ℕ) → c ≡ Drain s b → Delivered s t (r .answer .clock) (r .bytes)
   -- and every call leaves as many bytes
   pub whole : (length (r .bytes) ≡ length t) × Bytes (r .bytes)
 
 -- for every buffer
 abbrev pub Demand1 : Type 0
 Demand1 = (t : List ℕ) → Bytes t → (c : Call) → Answered t c (serve t c)
+
+-- so a drain that answers no delivery, 11 or not, has left the bytes
+abbrev pub NothingDelivered : Type 0
+NothingDelivered = (t : List ℕ) (s b : ℕ) (r : Served) → Answered t (Drain s b) r → r .answer .clock ≡ 0 → r .bytes ≡ t
 
 -- from every sound table: some world abstracts it, and for each that does its calls are figure 7's steps
 abbrev pub Demand2 : Type 1
@@ -46,7 +58,7 @@ play t h [] = (t, h)
 play t h (c ∷ cs) = let r = serve t c in play (r .bytes) (after-call (stateOf t) c (r .answer) h) cs
 
 -- from a freshly opened table, after any calls with any numbers (a value is 4 bytes)
-abbrev pub Demand3 : Type 0
+abbrev pub Demand3 : Type 1
 Demand3 =
     (t : List ℕ) (n k : ℕ) → serve t (Open n k) .answer .code ≡ 0 →
     (cs : List Call) → ((s x v : ℕ) → Put s x v ∈ cs → v < 256 ^ 4) →

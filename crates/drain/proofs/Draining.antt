@@ -14,11 +14,11 @@ use Rattle.rules.specs.Steps.{Numbers, Outcome, deliver}
 use Rattle.rules.specs.Refusals.{first, deliver-refusals}
 use Rattle.rules.specs.Drain.{try, turn, passes, drained}
 use Rattle.rules.specs.Calls.{Deliver, Drain, refusals, run, asks}
-use Rattle.rules.proofs.Ready.{drain-ready}
-use Rattle.rules.proofs.Serving.{asks-clear}
-use Rattle.rules.proofs.Draining.{try-runs, ended, stopped, passes-end, passes-stop, passes-accepted, passes-refused}
-use Rattle.rules.proofs.Turns.{Fair, turn-fair}
-use Rattle.rules.proofs.After.{keeps-sound, counts-kept}
+use Rattle.laws.proofs.Ready.{drain-ready}
+use Rattle.laws.proofs.Serving.{asks-clear}
+use Rattle.laws.proofs.Draining.{try-runs, ended, stopped, passes-end, passes-stop, passes-accepted, passes-refused}
+use Rattle.laws.proofs.Turns.{Fair, turn-fair}
+use Rattle.laws.proofs.After.{keeps-sound, counts-kept}
 use Rattle.table.specs.Asked.{Attempts}
 use Rattle.drain.specs.Turns.{turnOf, Drains}
 use Rattle.drain.proofs.Turning.{due-at, at-end}

@@ -6,7 +6,7 @@ use Prim.Native.Nat.{ℕ, _<_}
 use lib.Dec.{ltb}
 use lib.ListN.{length}
 use Rattle.clock.specs.Map.{if_then_else_}
-use Rattle.layout.specs.State.{stateOf}
+use Rattle.layout.specs.State.{stateOf, table}
 use Rattle.rules.specs.Sound.{Sound}
 use Rattle.rules.specs.Drain.{Turn, end, due}
 
@@ -16,7 +16,7 @@ turnOf n o d = if ltb o n then due o d else end
 
 -- a sound table of n sites, and one of them
 pub record Drains (t : List ℕ) (n s : ℕ) : Type 0 where
-  pub size : length t ≡ 15620
+  pub size : length t ≡ table .width
   pub sound : Sound (stateOf t)
   pub sites : n ≡ stateOf t .n
   pub site : s < n

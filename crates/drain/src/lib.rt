@@ -4,8 +4,8 @@ ghost use Prim.Native.Nat.{_≤_, _<_, _+_};
 ghost use Rattle.layout.specs.State.{stateOf};
 ghost use Rattle.rules.specs.Refusals.{first};
 ghost use Rattle.rules.specs.Drain.{skip, turn, drain};
-ghost use Rattle.rules.specs.Calls.{Drain, asks, serve};
-ghost use Rattle.table.specs.Answers.{codeOf, numbersOf, served};
+ghost use Rattle.rules.specs.Calls.{Drain, asks};
+ghost use Rattle.table.specs.Answers.{codeOf, numbersOf, served, Promise};
 ghost use Rattle.drain.specs.Turns.{turnOf, Drains};
 use table::Answer;
 use table::Refusal;
@@ -102,7 +102,7 @@ fn passes(t: &mut [u8], n: usize, s: usize, budget: u16) -> Answer
 }
 
 pub fn drain(t: &mut [u8], s: usize, budget: u16) -> Answer
-    ensures { λ r. ⌜ served r (now (t .exit)) ≡ serve (now (t .entry)) (Drain s budget) ⌝ }
+    ensures { λ r. ⌜ Promise (now (t .entry)) (Drain s budget) (served r (now (t .exit))) ⌝ }
 {
     let why = drain_refusal(t, s);
     match why {

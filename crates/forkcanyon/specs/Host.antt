@@ -6,15 +6,18 @@ use lib.Dec.{eqb}
 use lib.ListN.{length}
 use Rattle.clock.specs.Map.{if_then_else_}
 use Rattle.layout.specs.Codec.{Codec, number, _then_}
-use Rattle.layout.specs.State.{clock}
+use Rattle.layout.specs.State.{byte, value, clock}
 use Rattle.rules.specs.Steps.{Numbers}
 use Rattle.rules.specs.Calls.{Call, serve}
 
 -- "The reply is 12 bytes: code, key, site, zero, clock (2), two zeros, value (4)"
 abbrev pub reply : Codec (ℕ × (ℕ × (ℕ × (ℕ × (ℕ × (ℕ × ℕ))))))
-reply = number 1 then number 1 then number 1 then number 1 then clock then number 2 then number 4
+reply = byte then byte then byte then byte then clock then number 2 then value
 
-twelve : reply .width ≡ 12
+abbrev pub replyBytes : ℕ
+replyBytes = reply .width
+
+twelve : replyBytes ≡ 12
 twelve = refl
 
 abbrev pub replyOf : Numbers → List ℕ
@@ -33,4 +36,12 @@ left c t r = record { code = c; table = t; reply = r }
 unfoldable pub host : (table reply : List ℕ) → Call → Hosted
 host t r c =
     let w = serve t c in
-    if eqb (length r) 12 then left (w .answer .code) (w .bytes) (replyOf (w .answer)) else left 1 t r
+    if eqb (length r) replyBytes then left (w .answer .code) (w .bytes) (replyOf (w .answer)) else left 1 t r
+
+-- the promise of every call from a C program: it returns and leaves in both buffers what `host` says
+abbrev pub Promise : (table reply : List ℕ) → Call → Hosted → Type 0
+Promise t r c o = o ≡ host t r c
+
+-- "a budget above 65,535 counts as 65,535"
+abbrev pub mostTries : ℕ
+mostTries = 65535

@@ -1,13 +1,9 @@
--- No second outcome: two outcomes that satisfy a call's promise are equal, and one exists. Assumes nothing.
+-- No second outcome: two outcomes that satisfy the promise in a call's `ensures` are equal, and one exists. Assumes nothing.
 use mathlib.Core.Path.{_≡_, refl, sym, _∙_}
 use mathlib.Core.List.{List}
 use Prim.Native.Nat.{ℕ, min}
 use Rattle.rules.specs.Calls.{Call, Open, Put, Get, Deliver, Drain}
-use Rattle.forkcanyon.specs.Host.{Hosted, host}
-
--- the code that a call on the table t and the reply r may return, and the bytes it may leave in both
-abbrev pub Promise : (t r : List ℕ) → Call → Hosted → Type 0
-Promise t r c o = o ≡ host t r c
+use Rattle.forkcanyon.specs.Host.{Hosted, host, Promise, mostTries}
 
 abbrev pub NoSecond : Call → Type 0
 NoSecond c = (t r : List ℕ) (o o′ : Hosted) → Promise t r c o → Promise t r c o′ → o ≡ o′
@@ -30,5 +26,5 @@ fc-get-no-second s x = no-second (Get s x)
 pub fc-deliver-no-second : (site origin : ℕ) → NoSecond (Deliver site origin) × One (Deliver site origin)
 fc-deliver-no-second s o = no-second (Deliver s o)
 
-pub fc-drain-no-second : (site budget : ℕ) → NoSecond (Drain site (min budget 65535)) × One (Drain site (min budget 65535))
-fc-drain-no-second s b = no-second (Drain s (min b 65535))
+pub fc-drain-no-second : (site budget : ℕ) → NoSecond (Drain site (min budget mostTries)) × One (Drain site (min budget mostTries))
+fc-drain-no-second s b = no-second (Drain s (min b mostTries))

@@ -4,7 +4,7 @@ ghost use mathlib.Core.Path.{_≡_};
 ghost use Prim.Native.Nat.{min};
 ghost use lib.ListN.{length};
 ghost use Rattle.rules.specs.Calls.{Open, Put, Get, Deliver, Drain};
-ghost use Rattle.forkcanyon.specs.Host.{replyOf, left, host};
+ghost use Rattle.forkcanyon.specs.Host.{replyBytes, replyOf, left, Promise, mostTries};
 ghost use Rattle.numbers.specs.Five.{fiveOf};
 ghost use Rattle.forkcanyon.specs.Told.{Replied};
 use numbers::Five;
@@ -19,7 +19,7 @@ impl Reply {
 
 // Code, key, site, zero, clock (2), two zeros, value (4).
 fn write_reply(reply: &mut [u8], code: u8, key: u8, site: u8, clock: u16, value: u32)
-    requires { ⌜ length (now reply) ≡ 12 ⌝ }
+    requires { ⌜ length (now reply) ≡ replyBytes ⌝ }
     ensures { λ _. ⌜ now (reply .exit) ≡ replyOf (record { code = code; key = key; site = site; clock = clock; value = value }) ⌝ }
 {
     reply[0] = code;
@@ -38,7 +38,7 @@ fn write_reply(reply: &mut [u8], code: u8, key: u8, site: u8, clock: u16, value:
 
 // The reply is written whole, whatever the answer, and its code comes back.
 fn answer(reply: &mut [u8], x: Five) -> u32
-    requires { ⌜ length (now reply) ≡ 12 ⌝ }
+    requires { ⌜ length (now reply) ≡ replyBytes ⌝ }
     ensures { λ r. ⌜ Replied r (now (reply .exit)) (fiveOf x) ⌝ }
 {
     write_reply(reply, x.code, x.key, x.site, x.clock, x.value);
@@ -47,7 +47,7 @@ fn answer(reply: &mut [u8], x: Five) -> u32
 
 #[no_mangle]
 pub extern "C" fn fc_open(sites: u64, keys: u64, table: &mut [u8], reply: &mut [u8]) -> u32
-    ensures { λ r. ⌜ left r (now (table .exit)) (now (reply .exit)) ≡ host (now (table .entry)) (now (reply .entry)) (Open sites keys) ⌝ }
+    ensures { λ r. ⌜ Promise (now (table .entry)) (now (reply .entry)) (Open sites keys) (left r (now (table .exit)) (now (reply .exit))) ⌝ }
 {
     if reply.len() != Reply::BYTES {
         return Reply::WRONG_SIZE;
@@ -58,7 +58,7 @@ pub extern "C" fn fc_open(sites: u64, keys: u64, table: &mut [u8], reply: &mut [
 
 #[no_mangle]
 pub extern "C" fn fc_put(site: u64, key: u64, value: u32, table: &mut [u8], reply: &mut [u8]) -> u32
-    ensures { λ r. ⌜ left r (now (table .exit)) (now (reply .exit)) ≡ host (now (table .entry)) (now (reply .entry)) (Put site key value) ⌝ }
+    ensures { λ r. ⌜ Promise (now (table .entry)) (now (reply .entry)) (Put site key value) (left r (now (table .exit)) (now (reply .exit))) ⌝ }
 {
     if reply.len() != Reply::BYTES {
         return Reply::WRONG_SIZE;
@@ -69,7 +69,7 @@ pub extern "C" fn fc_put(site: u64, key: u64, value: u32, table: &mut [u8], repl
 
 #[no_mangle]
 pub extern "C" fn fc_get(site: u64, key: u64, table: &mut [u8], reply: &mut [u8]) -> u32
-    ensures { λ r. ⌜ left r (now (table .exit)) (now (reply .exit)) ≡ host (now (table .entry)) (now (reply .entry)) (Get site key) ⌝ }
+    ensures { λ r. ⌜ Promise (now (table .entry)) (now (reply .entry)) (Get site key) (left r (now (table .exit)) (now (reply .exit))) ⌝ }
 {
     if reply.len() != Reply::BYTES {
         return Reply::WRONG_SIZE;
@@ -80,7 +80,7 @@ pub extern "C" fn fc_get(site: u64, key: u64, table: &mut [u8], reply: &mut [u8]
 
 #[no_mangle]
 pub extern "C" fn fc_deliver(site: u64, origin: u64, table: &mut [u8], reply: &mut [u8]) -> u32
-    ensures { λ r. ⌜ left r (now (table .exit)) (now (reply .exit)) ≡ host (now (table .entry)) (now (reply .entry)) (Deliver site origin) ⌝ }
+    ensures { λ r. ⌜ Promise (now (table .entry)) (now (reply .entry)) (Deliver site origin) (left r (now (table .exit)) (now (reply .exit))) ⌝ }
 {
     if reply.len() != Reply::BYTES {
         return Reply::WRONG_SIZE;
@@ -89,16 +89,26 @@ pub extern "C" fn fc_deliver(site: u64, origin: u64, table: &mut [u8], reply: &m
     answer(reply, numbers::numbers_of(a))
 }
 
+pub struct Budget {}
+
+impl Budget {
+    pub const MOST: u16 = 65535;
+}
+
 // A budget above 65,535 counts as 65,535.
 fn tries_allowed(budget: u64) -> u16
-    ensures { λ r. ⌜ r ≡ min budget 65535 ⌝ }
+    ensures { λ r. ⌜ r ≡ min budget mostTries ⌝ }
 {
-    if budget < 65535 { budget as u16 } else { 65535 }
+    if budget < Budget::MOST as u64 {
+        budget as u16
+    } else {
+        Budget::MOST
+    }
 }
 
 #[no_mangle]
 pub extern "C" fn fc_drain(site: u64, budget: u64, table: &mut [u8], reply: &mut [u8]) -> u32
-    ensures { λ r. ⌜ left r (now (table .exit)) (now (reply .exit)) ≡ host (now (table .entry)) (now (reply .entry)) (Drain site (min budget 65535)) ⌝ }
+    ensures { λ r. ⌜ Promise (now (table .entry)) (now (reply .entry)) (Drain site (min budget mostTries)) (left r (now (table .exit)) (now (reply .exit))) ⌝ }
 {
     if reply.len() != Reply::BYTES {
         return Reply::WRONG_SIZE;

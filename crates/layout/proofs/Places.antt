@@ -7,14 +7,11 @@ use native.Mathlib.Omega.{arith}
 use Rattle.clock.specs.Map.{_⟨_≔_⟩, _⟨_⟩⟨_≔_⟩, upTo}
 use Rattle.clock.proofs.Cells.{cells-zeros, upTo-below, upTo-from}
 use Rattle.clock.specs.Vector.{Vector, zeros}
-use Rattle.layout.specs.Codec.{Codec, number, _then_, row}
-use Rattle.layout.specs.State.{Fields, Entry, Update, Parts, clock, vector, fields, square, entry, update, toState, ofState, table, withApplied, withDepends, withStore, withUpdates, toEntry, toUpdate, stateOf}
+use Rattle.layout.specs.Codec.{Codec, _then_, row}
+use Rattle.layout.specs.State.{Fields, Entry, Update, Parts, byte, value, clock, vector, fields, square, entry, update, toState, ofState, table, appliedAt, dependsAt, storeAt, updatesAt, withApplied, withDepends, withStore, withUpdates, toEntry, toUpdate, stateOf}
 use Rattle.layout.specs.Records.{fieldsAt, cells2, rows}
 use Rattle.layout.proofs.Splice.{part, getD-part}
 use Rattle.layout.proofs.Fields.{Field, at-place, inner, first, second, element, clothed, read-part, write-part, read-byte}
-
-abbrev byte : Codec ℕ
-byte = number 1
 
 abbrev updates : Codec (ℕ → ℕ → Update)
 updates = row 8 (row 16 update)
@@ -30,7 +27,7 @@ abbrev applied : Codec ((ℕ → Vector) × ((ℕ → Vector) × ((ℕ → ℕ �
 applied = square then depends
 
 -- behind the four bytes of the header
-behind : Field (byte then byte then byte then byte then applied) applied 4 (λ p. p .1 .1 .1 .1) (λ p v. (p .0, (p .1 .0, (p .1 .1 .0, (p .1 .1 .1 .0, v)))))
+behind : Field (byte then byte then byte then byte then applied) applied appliedAt (λ p. p .1 .1 .1 .1) (λ p v. (p .0, (p .1 .0, (p .1 .1 .0, (p .1 .1 .1 .0, v)))))
 behind =
     inner (second byte (byte then byte then byte then applied))
     (inner (second byte (byte then byte then applied)) (inner (second byte (byte then applied)) (second byte applied)))
@@ -58,39 +55,51 @@ byte3 =
     (inner (second byte (byte then byte then applied)) (inner (second byte (byte then applied)) (first byte applied))))
 
 -- the squares, their rows and their numbers
-pub applied-square : Field table square 4 (λ S. S .applied) withApplied
+pub applied-square : Field table square appliedAt (λ S. S .applied) withApplied
 applied-square = in-table (inner behind (first square depends))
 
-pub depends-square : Field table square 132 (λ S. S .depends) withDepends
+pub depends-square : Field table square dependsAt (λ S. S .depends) withDepends
 depends-square = in-table (inner behind (inner (second square depends) (first square store)))
 
 pub applied-number : (s o : ℕ) → s < 8 → o < 8
-    → Field table clock (4 + (s * 8 + o) * 2) (λ S. S .applied s o) (λ S c. withApplied S (S .applied ⟨ s ⟩⟨ o ≔ c ⟩))
+    → Field table clock (appliedAt + (s * 8 + o) * clock .width) (λ S. S .applied s o) (λ S c. withApplied S (S .applied ⟨ s ⟩⟨ o ≔ c ⟩))
 applied-number s o hs ho = at-place (omega arith) (inner applied-square (inner (element vector 8 s hs) (element clock 8 o ho)))
 
 pub depends-number : (s o : ℕ) → s < 8 → o < 8
-    → Field table clock (132 + (s * 8 + o) * 2) (λ S. S .depends s o) (λ S c. withDepends S (S .depends ⟨ s ⟩⟨ o ≔ c ⟩))
+    → Field table clock (dependsAt + (s * 8 + o) * clock .width) (λ S. S .depends s o) (λ S c. withDepends S (S .depends ⟨ s ⟩⟨ o ≔ c ⟩))
 depends-number s o hs ho = at-place (omega arith) (inner depends-square (inner (element vector 8 s hs) (element clock 8 o ho)))
 
-pub depends-row : (s : ℕ) → s < 8 → Field table vector (132 + s * 16) (λ S. S .depends s) (λ S v. withDepends S (S .depends ⟨ s ≔ v ⟩))
+pub depends-row : (s : ℕ) → s < 8 → Field table vector (dependsAt + s * vector .width) (λ S. S .depends s) (λ S v. withDepends S (S .depends ⟨ s ≔ v ⟩))
 depends-row s hs = inner depends-square (element vector 8 s hs)
 
 -- the entry of key x at site s, and the update at place p of origin o
 pub entry-place : (s x : ℕ) → s < 8 → x < 64
-    → Field table entry (260 + (s * 64 + x) * 24) (λ S. S .store s x) (λ S e. withStore S (S .store ⟨ s ⟩⟨ x ≔ e ⟩))
+    → Field table entry (storeAt + (s * 64 + x) * entry .width) (λ S. S .store s x) (λ S e. withStore S (S .store ⟨ s ⟩⟨ x ≔ e ⟩))
 entry-place s x hs hx =
     at-place (omega arith)
     (inner (in-table (inner behind (inner (second square depends) (inner (second square store) (first (row 8 (row 64 entry)) updates)))))
     (inner (element (row 64 entry) 8 s hs) (element entry 64 x hx)))
 
 pub update-place : (o p : ℕ) → o < 8 → p < 16
-    → Field table update (12548 + (o * 16 + p) * 24) (λ S. S .updates o p) (λ S u. withUpdates S (S .updates ⟨ o ⟩⟨ p ≔ u ⟩))
+    → Field table update (updatesAt + (o * 16 + p) * update .width) (λ S. S .updates o p) (λ S u. withUpdates S (S .updates ⟨ o ⟩⟨ p ≔ u ⟩))
 update-place o p ho hp =
     at-place (omega arith)
     (inner (in-table (inner behind (inner (second square depends) (inner (second square store) (second (row 8 (row 64 entry)) updates)))))
     (inner (element (row 16 update) 8 o ho) (element update 16 p hp)))
 
 -- ## The places in an entry or an update
+
+abbrev tagAt : ℕ
+tagAt = value .width
+
+abbrev zeroAt : ℕ
+zeroAt = tagAt + byte .width
+
+abbrev clockAt : ℕ
+clockAt = zeroAt + byte .width
+
+abbrev vectorAt : ℕ
+vectorAt = clockAt + clock .width
 
 abbrev after-value : Codec (ℕ × (ℕ × (ℕ × Vector)))
 after-value = byte then byte then clock then vector
@@ -101,23 +110,23 @@ after-tag = byte then clock then vector
 abbrev after-zero : Codec (ℕ × Vector)
 after-zero = clock then vector
 
-pub value-field : Field fields (number 4) 0 (λ p. p .0) (λ p v. (v, p .1))
-value-field = first (number 4) after-value
+pub value-field : Field fields (value) 0 (λ p. p .0) (λ p v. (v, p .1))
+value-field = first (value) after-value
 
-pub tag-field : Field fields byte 4 (λ p. p .1 .0) (λ p v. (p .0, (v, p .1 .1)))
-tag-field = inner (second (number 4) after-value) (first byte after-tag)
+pub tag-field : Field fields byte tagAt (λ p. p .1 .0) (λ p v. (p .0, (v, p .1 .1)))
+tag-field = inner (second (value) after-value) (first byte after-tag)
 
-pub zero-field : Field fields byte 5 (λ p. p .1 .1 .0) (λ p v. (p .0, (p .1 .0, (v, p .1 .1 .1))))
-zero-field = inner (second (number 4) after-value) (inner (second byte after-tag) (first byte after-zero))
+pub zero-field : Field fields byte zeroAt (λ p. p .1 .1 .0) (λ p v. (p .0, (p .1 .0, (v, p .1 .1 .1))))
+zero-field = inner (second (value) after-value) (inner (second byte after-tag) (first byte after-zero))
 
-pub clock-field : Field fields clock 6 (λ p. p .1 .1 .1 .0) (λ p v. (p .0, (p .1 .0, (p .1 .1 .0, (v, p .1 .1 .1 .1)))))
-clock-field = inner (second (number 4) after-value) (inner (second byte after-tag) (inner (second byte after-zero) (first clock vector)))
+pub clock-field : Field fields clock clockAt (λ p. p .1 .1 .1 .0) (λ p v. (p .0, (p .1 .0, (p .1 .1 .0, (v, p .1 .1 .1 .1)))))
+clock-field = inner (second (value) after-value) (inner (second byte after-tag) (inner (second byte after-zero) (first clock vector)))
 
-pub depends-field : Field fields vector 8 (λ p. p .1 .1 .1 .1) (λ p v. (p .0, (p .1 .0, (p .1 .1 .0, (p .1 .1 .1 .0, v)))))
-depends-field = inner (second (number 4) after-value) (inner (second byte after-tag) (inner (second byte after-zero) (second clock vector)))
+pub depends-field : Field fields vector vectorAt (λ p. p .1 .1 .1 .1) (λ p v. (p .0, (p .1 .0, (p .1 .1 .0, (p .1 .1 .1 .0, v)))))
+depends-field = inner (second (value) after-value) (inner (second byte after-tag) (inner (second byte after-zero) (second clock vector)))
 
 pub fields-read : (l : List ℕ)
-    → (number 4 .dec (take 4 l), (getD l 4 0, (getD l 5 0, (clock .dec (part l 6 2), vector .dec (part l 8 16))))) ≡ fieldsAt l
+    → (value .dec (take tagAt l), (getD l tagAt 0, (getD l zeroAt 0, (clock .dec (part l clockAt (clock .width)), vector .dec (part l vectorAt (vector .width)))))) ≡ fieldsAt l
 unfolding fieldsAt
 fields-read l i =
     (read-part value-field l i, (read-byte tag-field l i, (read-byte zero-field l i, (read-part clock-field l i, read-part depends-field l i))))
@@ -125,21 +134,21 @@ fields-read l i =
 -- the bytes after the five stores of an entry or an update
 module _ (l b₁ b₂ b₃ b₄ b₅ : List ℕ) where
   abbrev l₁ : List ℕ
-  l₁ = b₁ ++ drop 4 l
+  l₁ = b₁ ++ drop tagAt l
 
   abbrev l₂ : List ℕ
-  l₂ = take 4 l₁ ++ (b₂ ++ drop 1 (drop 4 l₁))
+  l₂ = take tagAt l₁ ++ (b₂ ++ drop 1 (drop tagAt l₁))
 
   abbrev l₃ : List ℕ
-  l₃ = take 5 l₂ ++ (b₃ ++ drop 1 (drop 5 l₂))
+  l₃ = take zeroAt l₂ ++ (b₃ ++ drop 1 (drop zeroAt l₂))
 
   abbrev l₄ : List ℕ
-  l₄ = take 6 l₃ ++ (b₄ ++ drop 2 (drop 6 l₃))
+  l₄ = take clockAt l₃ ++ (b₄ ++ drop (clock .width) (drop clockAt l₃))
 
-  pub fields-written : length l ≡ 24 → length l₁ ≡ 24 → length l₂ ≡ 24 → length l₃ ≡ 24 → length l₄ ≡ 24
-      → length b₁ ≡ length (take 4 l) → length b₂ ≡ length (part l₁ 4 1) → length b₃ ≡ length (part l₂ 5 1)
-      → length b₄ ≡ length (part l₃ 6 2) → length b₅ ≡ length (part l₄ 8 16)
-      → fieldsAt (take 8 l₄ ++ (b₅ ++ drop 16 (drop 8 l₄))) ≡ (number 4 .dec b₁, (byte .dec b₂, (byte .dec b₃, (clock .dec b₄, vector .dec b₅))))
+  pub fields-written : length l ≡ fields .width → length l₁ ≡ fields .width → length l₂ ≡ fields .width → length l₃ ≡ fields .width → length l₄ ≡ fields .width
+      → length b₁ ≡ length (take tagAt l) → length b₂ ≡ length (part l₁ tagAt 1) → length b₃ ≡ length (part l₂ zeroAt 1)
+      → length b₄ ≡ length (part l₃ clockAt (clock .width)) → length b₅ ≡ length (part l₄ vectorAt (vector .width))
+      → fieldsAt (take vectorAt l₄ ++ (b₅ ++ drop (vector .width) (drop vectorAt l₄))) ≡ (value .dec b₁, (byte .dec b₂, (byte .dec b₃, (clock .dec b₄, vector .dec b₅))))
   unfolding fieldsAt
   fields-written h h₁ h₂ h₃ h₄ k₁ k₂ k₃ k₄ k₅ =
       write-part depends-field l₄ b₅ h₄ k₅
@@ -168,21 +177,21 @@ pub row-read : (s : ℕ) (f : ℕ → Vector) {a : ℕ → Vector} → a ≡ row
 row-read s f e = (λ i. e i s) ∙ rows-at s (s + 1) s f (omega arith) (omega arith)
 
 -- the clock and the tag of an entry or an update, read by themselves
-pub clock-read : (l : List ℕ) → clock .dec (part l 6 2) ≡ fieldsAt l .1 .1 .1 .0
+pub clock-read : (l : List ℕ) → clock .dec (part l clockAt (clock .width)) ≡ fieldsAt l .1 .1 .1 .0
 clock-read l = ap (λ (p : Fields). p .1 .1 .1 .0) (fields-read l)
 
-pub clock-bytes : (l : List ℕ) → getD l 6 0 * 256 + getD l 7 0 ≡ fieldsAt l .1 .1 .1 .0
-clock-bytes l = omega (arith, clock-read l, getD-part l 6 2 0 (omega arith), getD-part l 6 2 1 (omega arith))
+pub clock-bytes : (l : List ℕ) → getD l clockAt 0 * 256 + getD l (clockAt + 1) 0 ≡ fieldsAt l .1 .1 .1 .0
+clock-bytes l = omega (arith, clock-read l, getD-part l clockAt (clock .width) 0 (omega arith), getD-part l clockAt (clock .width) 1 (omega arith))
 
-pub tag-read : (l : List ℕ) → getD l 4 0 ≡ fieldsAt l .1 .0
+pub tag-read : (l : List ℕ) → getD l tagAt 0 ≡ fieldsAt l .1 .0
 tag-read l = ap (λ (p : Fields). p .1 .0) (fields-read l)
 
 -- an entry and an update, read in their places as code does
-pub entry-read : (t : List ℕ) (s x : ℕ) → s < 8 → x < 64 → let at = 260 + (s * 64 + x) * 24 in toEntry (fieldsAt (part t at (at + 24 - at))) ≡ stateOf t .store s x
+pub entry-read : (t : List ℕ) (s x : ℕ) → s < 8 → x < 64 → let at = storeAt + (s * 64 + x) * entry .width in toEntry (fieldsAt (part t at (at + entry .width - at))) ≡ stateOf t .store s x
 unfolding fieldsAt stateOf
 entry-read t s x hs hx = read-part (entry-place s x hs hx) t
 
 pub update-read : (t : List ℕ) (o p : ℕ) → o < 8 → p < 16
-    → let at = 12548 + (o * 16 + p) * 24 in toUpdate (fieldsAt (part t at (at + 24 - at))) ≡ stateOf t .updates o p
+    → let at = updatesAt + (o * 16 + p) * update .width in toUpdate (fieldsAt (part t at (at + update .width - at))) ≡ stateOf t .updates o p
 unfolding fieldsAt stateOf
 update-read t o p ho hp = read-part (update-place o p ho hp) t

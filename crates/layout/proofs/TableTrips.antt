@@ -1,15 +1,15 @@
 -- The table's round trips. Assumes nothing.
 use mathlib.Core.Path.{refl}
-use Rattle.layout.specs.State.{fields, vector, toEntry, ofEntry, toUpdate, ofUpdate, toState, ofState, table, stateOf, bytesOf}
+use Rattle.layout.specs.State.{value, clock, fields, vector, toEntry, ofEntry, toUpdate, ofUpdate, toState, ofState, table, stateOf, bytesOf}
 use Rattle.layout.specs.Ranges.{FitsVector, FitsFields, Fits}
 use Rattle.layout.specs.Theorems.{BytesBack, StateBack, StateFits, BytesLong}
 use Rattle.layout.proofs.RoundTrip.{Lawful, number-lawful, then-lawful, row-lawful, via-lawful}
 
 vector-lawful : Lawful vector FitsVector
-vector-lawful = row-lawful (number-lawful 2) 8
+vector-lawful = row-lawful (number-lawful (clock .width)) 8
 
 pub fields-lawful : Lawful fields FitsFields
-fields-lawful = then-lawful (number-lawful 4) (then-lawful (number-lawful 1) (then-lawful (number-lawful 1) (then-lawful (number-lawful 2) vector-lawful)))
+fields-lawful = then-lawful (number-lawful (value .width)) (then-lawful (number-lawful 1) (then-lawful (number-lawful 1) (then-lawful (number-lawful (clock .width)) vector-lawful)))
 
 table-lawful : Lawful table Fits
 table-lawful =

@@ -6,7 +6,7 @@ use native.Mathlib.Nat.{suc-mul, zero-mul}
 use native.Mathlib.Omega.{arith}
 use lib.ListN.{length, getD, length-append}
 use Rattle.layout.specs.Codec.{Codec, digits, number, _then_, inRow, row, via}
-use Rattle.layout.specs.State.{State, vector, fields, toEntry, ofEntry, toUpdate, ofUpdate, toState, ofState, table, bytesOf}
+use Rattle.layout.specs.State.{State, value, clock, vector, fields, toEntry, ofEntry, toUpdate, ofUpdate, toState, ofState, table, bytesOf}
 use Rattle.layout.specs.Ranges.{Bytes}
 
 -- n bytes
@@ -65,10 +65,10 @@ whole-via : {A B : Type 0} {c : Codec A} (f : A → B) (g : B → A) → Whole c
 whole-via f g w = record { all = λ b. w .all (g b) }
 
 whole-vector : Whole vector
-whole-vector = whole-row 8 (whole-number 2)
+whole-vector = whole-row 8 (whole-number (clock .width))
 
 whole-fields : Whole fields
-whole-fields = whole-then (whole-number 4) (whole-then (whole-number 1) (whole-then (whole-number 1) (whole-then (whole-number 2) whole-vector)))
+whole-fields = whole-then (whole-number (value .width)) (whole-then (whole-number 1) (whole-then (whole-number 1) (whole-then (whole-number (clock .width)) whole-vector)))
 
 whole-table : Whole table
 whole-table =

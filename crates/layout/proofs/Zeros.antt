@@ -9,12 +9,12 @@ use lib.Dec.{ltb}
 use lib.ListN.{length, getD, take, drop, replicate, List·getD-eq-default}
 use borrow.Author.Tests.{ltb-true, ltb-false}
 use Rattle.clock.proofs.Maps.{true-or-false}
-use Rattle.clock.proofs.Below.{below-suc}
+use Rattle.clock.proofs.Says.{below-suc}
 use lib.Seq.{getD-drop}
 use Rattle.clock.specs.Vector.{Vector, zeros}
 use Rattle.clock.proofs.Cells.{cells-zeros}
 use Rattle.layout.specs.Codec.{Codec, digits, inRow, number, _then_, row, via}
-use Rattle.layout.specs.State.{fields, vector, toEntry, ofEntry, toUpdate, ofUpdate, toState, ofState, table, allZero, stateOf}
+use Rattle.layout.specs.State.{value, clock, fields, vector, toEntry, ofEntry, toUpdate, ofUpdate, toState, ofState, table, allZero, stateOf}
 use Rattle.layout.specs.Ranges.{Bytes, Zeros}
 use Rattle.layout.specs.Records.{fieldsAt}
 use Rattle.layout.proofs.Splice.{part}
@@ -45,7 +45,7 @@ zero-number (suc w) l h = omega (arith, zero-number w l h, h w)
 -- and a number of 0 is of zero bytes
 pub number-zero : (w : ℕ) (l : List ℕ) → number w .dec l ≡ 0 → (j : ℕ) → j < w → getD l j 0 ≡ 0
 number-zero zero l e j h = absurd (omega arith)
-number-zero (suc w) l e j h = below-suc (λ j. getD l j 0 ≡ 0) w (number-zero w l (omega arith)) (omega arith) j h
+number-zero (suc w) l e j h = below-suc (λ j. getD l j 0 ≡ 0) w .0 (number-zero w l (omega arith), omega arith) j h
 
 blank-number : (w : ℕ) → Blank (number w) 0
 blank-number w = record { reads = zero-number w }
@@ -66,26 +66,26 @@ blank-via : {A B : Type 0} {c : Codec A} {z : A} (f : A → B) (g : B → A) →
 blank-via f g r = record { reads = λ l h. ap f (r .reads l h) }
 
 blank-vector : Blank vector zeros
-blank-vector = blank-row 8 (blank-number 2)
+blank-vector = blank-row 8 (blank-number (clock .width))
 
 same-row : (m : ℕ) (f g : ℕ → List ℕ) → ((j : ℕ) → j < m → f j ≡ g j) → inRow m f ≡ inRow m g
 same-row zero f g h = refl
 same-row (suc m) f g h = λ i. h 0 (omega arith) i ++ same-row m (λ j. f (suc j)) (λ j. g (suc j)) (λ j k. h (suc j) (omega arith)) i
 
 blank-fields : Blank fields (0, (0, (0, (0, zeros))))
-blank-fields = blank-then (blank-number 4) (blank-then (blank-number 1) (blank-then (blank-number 1) (blank-then (blank-number 2) blank-vector)))
+blank-fields = blank-then (blank-number (value .width)) (blank-then (blank-number 1) (blank-then (blank-number 1) (blank-then (blank-number (clock .width)) blank-vector)))
 
 pub zero-fields : (l : List ℕ) → Zeros l → fieldsAt l ≡ (0, (0, (0, (0, zeros))))
 unfolding fieldsAt
 zero-fields = blank-fields .reads
 
 -- and nothing else reads so
-pub fields-zero : (l : List ℕ) → length l ≡ 24 → Bytes l → (v : Vector) → fieldsAt l ≡ (0, (0, (0, (0, v)))) → ((j : ℕ) → j < 8 → v j ≡ 0) → Zeros l
+pub fields-zero : (l : List ℕ) → length l ≡ fields .width → Bytes l → (v : Vector) → fieldsAt l ≡ (0, (0, (0, (0, v)))) → ((j : ℕ) → j < 8 → v j ≡ 0) → Zeros l
 unfolding fieldsAt
 fields-zero l hl hb v e f i =
-    let none : fields .enc (fields .dec l) ≡ replicate 24 0 =
-    ap (fields .enc) e ∙ ap (λ (r : List ℕ). replicate 8 0 ++ r) (same-row 8 (λ j. digits 2 (v j)) (λ j. 0 ∷ 0 ∷ []) (λ j h. ap (digits 2) (f j h))) in
-    ap (λ (r : List ℕ). getD r i 0) (sym (fields-lawful .forth l hl hb) ∙ none) ∙ ap (λ (g : ℕ → ℕ). g i) (cells-zeros 24)
+    let none : fields .enc (fields .dec l) ≡ replicate (fields .width) 0 =
+    ap (fields .enc) e ∙ ap (λ (r : List ℕ). replicate 8 0 ++ r) (same-row 8 (λ j. digits (clock .width) (v j)) (λ j. 0 ∷ 0 ∷ []) (λ j h. ap (digits (clock .width)) (f j h))) in
+    ap (λ (r : List ℕ). getD r i 0) (sym (fields-lawful .forth l hl hb) ∙ none) ∙ ap (λ (g : ℕ → ℕ). g i) (cells-zeros (fields .width))
 
 blank-table : Blank table allZero
 blank-table =

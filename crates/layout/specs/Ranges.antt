@@ -5,7 +5,7 @@ use Prim.Native.Nat.{ℕ, _^_, _≤_, _<_}
 use lib.ListN.{getD}
 use Rattle.clock.specs.Vector.{Vector}
 use Rattle.layout.specs.Codec.{Codec, row}
-use Rattle.layout.specs.State.{State, Fields, ofEntry, ofUpdate, clock, vector, entry, update}
+use Rattle.layout.specs.State.{State, Fields, ofEntry, ofUpdate, byte, value, clock, vector, entry, update}
 
 -- every number is a byte, and every one is 0
 unfoldable pub Bytes : List ℕ → Type 0
@@ -18,18 +18,22 @@ Zeros l = (i : ℕ) → getD l i 0 ≡ 0
 abbrev pub Rows : {A : Type 0} → ℕ → Codec A → (A → Type 0) → (ℕ → A) → Type 0
 Rows m c ok a = ((j : ℕ) → j < m → ok (a j)) × ((j : ℕ) → m ≤ j → a j ≡ c .dec [])
 
--- eight columns of 2 bytes
-abbrev pub FitsVector : Vector → Type 0
-FitsVector v = Rows 8 clock (λ c. c < 256 ^ 2) v
+-- a number within a width
+abbrev pub Within : Codec ℕ → ℕ → Type 0
+Within c n = n < 256 ^ c .width
 
--- 4, 1, 1 and 2 bytes, and a vector
+-- eight columns, a clock each
+abbrev pub FitsVector : Vector → Type 0
+FitsVector v = Rows 8 clock (Within clock) v
+
+-- value, origin or key, zero, clock, and a vector
 abbrev pub FitsFields : Fields → Type 0
-FitsFields p = (p .0 < 256 ^ 4) × ((p .1 .0 < 256 ^ 1) × ((p .1 .1 .0 < 256 ^ 1) × ((p .1 .1 .1 .0 < 256 ^ 2) × FitsVector (p .1 .1 .1 .1))))
+FitsFields p = Within value (p .0) × (Within byte (p .1 .0) × (Within byte (p .1 .1 .0) × (Within clock (p .1 .1 .1 .0) × FitsVector (p .1 .1 .1 .1))))
 
 -- every number of the table within its width
 abbrev pub Fits : State → Type 0
 Fits S =
-    (S .n < 256 ^ 1) × ((S .k < 256 ^ 1) × ((S .byte2 < 256 ^ 1) × ((S .byte3 < 256 ^ 1)
+    Within byte (S .n) × (Within byte (S .k) × (Within byte (S .byte2) × (Within byte (S .byte3)
     × (Rows 8 vector FitsVector (S .applied) × (Rows 8 vector FitsVector (S .depends)
     × (Rows 8 (row 64 entry) (Rows 64 entry (λ e. FitsFields (ofEntry e))) (S .store)
     × Rows 8 (row 16 update) (Rows 16 update (λ u. FitsFields (ofUpdate u))) (S .updates)))))))

@@ -1,7 +1,7 @@
 -- The table as plain numbers, and the one definition of how it stands in bytes. Assumes nothing.
 use mathlib.Core.Path.{_≡_, refl}
 use mathlib.Core.List.{List, [], _∷_}
-use Prim.Native.Nat.{ℕ, _+_}
+use Prim.Native.Nat.{ℕ, _+_, _-_, _^_}
 use Rattle.clock.specs.Vector.{Vector, zeros}
 use Rattle.layout.specs.Codec.{Codec, number, _then_, row, via}
 
@@ -34,10 +34,21 @@ pub record State : Type 0 where
 
 -- ## The layout
 
--- eight columns of 2 bytes each
+-- a byte, as the counts, a site or a key take; a value (4 bytes); a clock (2 bytes)
+abbrev pub byte : Codec ℕ
+byte = number 1
+
+abbrev pub value : Codec ℕ
+value = number 4
+
 abbrev pub clock : Codec ℕ
 clock = number 2
 
+-- the greatest number that a clock can be
+abbrev pub lastClock : ℕ
+lastClock = 256 ^ clock .width - 1
+
+-- eight columns of 2 bytes each
 abbrev pub vector : Codec Vector
 vector = row 8 clock
 
@@ -50,7 +61,7 @@ abbrev pub Fields : Type 0
 Fields = ℕ × (ℕ × (ℕ × (ℕ × Vector)))
 
 abbrev pub fields : Codec Fields
-fields = number 4 then number 1 then number 1 then clock then vector
+fields = value then byte then byte then clock then vector
 
 abbrev pub toEntry : Fields → Entry
 toEntry p = record { value = p .0; origin = p .1 .0; zero = p .1 .1 .0; clock = p .1 .1 .1 .0; depends = p .1 .1 .1 .1 }
@@ -93,7 +104,7 @@ ofState S = (S .n, (S .k, (S .byte2, (S .byte3, (S .applied, (S .depends, (S .st
 abbrev pub table : Codec State
 table =
     via toState ofState
-    (number 1 then number 1 then number 1 then number 1 then square then square then row 8 (row 64 entry) then row 8 (row 16 update))
+    (byte then byte then byte then byte then square then square then row 8 (row 64 entry) then row 8 (row 16 update))
 
 unfoldable pub stateOf : List ℕ → State
 stateOf t = table .dec t
@@ -101,11 +112,24 @@ stateOf t = table .dec t
 unfoldable pub bytesOf : State → List ℕ
 bytesOf S = table .enc S
 
--- the document's numbers: 15,620 bytes; the squares from 4 and 132, the store from 260, the updates from 12,548; 24 bytes each
-the-widths : table .width ∷ square .width ∷ entry .width ∷ update .width ∷ [] ≡ 15620 ∷ 128 ∷ 24 ∷ 24 ∷ []
+-- where the squares, the store and the updates begin
+abbrev pub appliedAt : ℕ
+appliedAt = 4
+
+abbrev pub dependsAt : ℕ
+dependsAt = appliedAt + square .width
+
+abbrev pub storeAt : ℕ
+storeAt = dependsAt + square .width
+
+abbrev pub updatesAt : ℕ
+updatesAt = storeAt + row 8 (row 64 entry) .width
+
+-- the document's numbers: clocks up to 65,535; 15,620 bytes; the squares from 4 and 132, the store from 260, the updates from 12,548; 24 bytes each
+pub the-widths : lastClock ∷ table .width ∷ square .width ∷ entry .width ∷ update .width ∷ [] ≡ 65535 ∷ 15620 ∷ 128 ∷ 24 ∷ 24 ∷ []
 the-widths = refl
 
-the-offsets : (4 + square .width) ∷ (132 + square .width) ∷ (260 + row 8 (row 64 entry) .width) ∷ (12548 + row 8 (row 16 update) .width) ∷ [] ≡ 132 ∷ 260 ∷ 12548 ∷ 15620 ∷ []
+pub the-offsets : appliedAt ∷ dependsAt ∷ storeAt ∷ updatesAt ∷ (updatesAt + row 8 (row 16 update) .width) ∷ [] ≡ 4 ∷ 132 ∷ 260 ∷ 12548 ∷ 15620 ∷ []
 the-offsets = refl
 
 -- all bytes zero

@@ -4,10 +4,9 @@ ghost use Prim.Native.Nat.{_+_, _*_, _≤_, _<_};
 ghost use lib.ListN.{length};
 ghost use Rattle.clock.specs.Map.{_⟨_≔_⟩, _⟨_⟩⟨_≔_⟩};
 ghost use Rattle.clock.specs.Clock.{columns};
-ghost use Rattle.layout.specs.Codec.{number};
-ghost use Rattle.layout.specs.State.{clock, vector, square, stateOf, allZero, withCounts, withApplied, withDepends, withStore, withUpdates};
+ghost use Rattle.layout.specs.State.{byte, value, clock, lastClock, vector, square, fields, stateOf, allZero, withCounts, withApplied, withDepends, withStore, withUpdates, table};
 ghost use Rattle.layout.specs.Ranges.{Zeros};
-ghost use Rattle.layout.specs.Records.{Headed, cells2, rows, fieldsAt, fieldsOf, entryOf, updateOf};
+ghost use Rattle.layout.specs.Records.{word, block, Headed, cells2, rows, fieldsAt, fieldsOf, entryOf, updateOf};
 use clock::Clock;
 
 // An entry or an update: tag is the entry's origin or the update's key, zero its zero byte.
@@ -37,34 +36,65 @@ impl Table {
 
     pub const LAST_CLOCK: u16 = 65535;
 
-    pub const BYTES: usize = 15620;
+    // How many bytes a value, a word of two values, a clock, a vector and a square take.
+    pub const VALUE: usize = 4;
 
-    pub const APPLIED: usize = 4;
-
-    pub const DEPENDS: usize = 132;
-
-    pub const STORE: usize = 260;
-
-    pub const UPDATES: usize = 12548;
+    pub const WORD: usize = Table::VALUE + Table::VALUE;
 
     pub const CLOCK: usize = 2;
 
-    pub const VECTOR: usize = 16;
+    pub const VECTOR: usize = Table::SITES * Table::CLOCK;
 
-    pub const SQUARE: usize = 128;
+    pub const SQUARE: usize = Table::SITES * Table::VECTOR;
 
-    pub const RECORD: usize = 24;
+    // Where the fields of a record stand in it: its value, its tag, its zero byte, its clock, its vector.
+    pub const RECORD_VALUE: usize = 0;
 
-    pub const SHELF: usize = 1536;
+    pub const RECORD_TAG: usize = Table::RECORD_VALUE + Table::VALUE;
+
+    pub const RECORD_ZERO: usize = Table::RECORD_TAG + 1;
+
+    pub const RECORD_CLOCK: usize = Table::RECORD_ZERO + 1;
+
+    pub const RECORD_VECTOR: usize = Table::RECORD_CLOCK + Table::CLOCK;
+
+    pub const RECORD: usize = Table::RECORD_VECTOR + Table::VECTOR;
+
+    // Between the two words of a record's vector.
+    pub const RECORD_MIDDLE: usize = Table::RECORD_VECTOR + Table::WORD;
+
+    // The entries of a site, and the updates of an origin.
+    pub const SHELF: usize = Table::KEYS * Table::RECORD;
+
+    pub const QUEUE: usize = Table::PLACES * Table::RECORD;
+
+    // Where the parts of the table stand in it: the header's four bytes, the squares, the store, the updates.
+    pub const SITE_COUNT: usize = 0;
+
+    pub const KEY_COUNT: usize = 1;
+
+    pub const BYTE_2: usize = 2;
+
+    pub const BYTE_3: usize = 3;
+
+    pub const APPLIED: usize = 4;
+
+    pub const DEPENDS: usize = Table::APPLIED + Table::SQUARE;
+
+    pub const STORE: usize = Table::DEPENDS + Table::SQUARE;
+
+    pub const UPDATES: usize = Table::STORE + Table::SITES * Table::SHELF;
+
+    pub const BYTES: usize = Table::UPDATES + Table::SITES * Table::QUEUE;
 
     // A table is cleared by blocks of a square and the four bytes behind it.
-    pub const BLOCK: usize = 132;
+    pub const BLOCK: usize = Table::SQUARE + Table::APPLIED;
 
-    pub const BLOCKS: usize = 122;
+    pub const BLOCKS: usize = (Table::BYTES - Table::APPLIED) / Table::SQUARE;
 }
 
 pub fn wide(x: u16) -> usize
-    ensures { λ r. ⌜ (r ≡ x) × (r < 65536) ⌝ }
+    ensures { λ r. ⌜ (r ≡ x) × (r ≤ lastClock) ⌝ }
 {
     x as usize
 }
@@ -88,35 +118,36 @@ fn value_of(a: u8, b: u8, c: u8, d: u8) -> u32
 }
 
 pub fn read_clock(s: &[u8]) -> u16
-    requires { ⌜ length (now s) ≡ 2 ⌝ }
+    requires { ⌜ length (now s) ≡ clock .width ⌝ }
     ensures { λ r. ⌜ r ≡ clock .dec (now (s .entry)) ⌝ }
 {
     clock_of(s[0], s[1])
 }
 
 fn read_value(s: &[u8]) -> u32
-    requires { ⌜ length (now s) ≡ 4 ⌝ }
-    ensures { λ r. ⌜ r ≡ number 4 .dec (now (s .entry)) ⌝ }
+    requires { ⌜ length (now s) ≡ value .width ⌝ }
+    ensures { λ r. ⌜ r ≡ value .dec (now (s .entry)) ⌝ }
 {
     value_of(s[0], s[1], s[2], s[3])
 }
 
 pub fn read_word(s: &[u8]) -> u64
-    requires { ⌜ length (now s) ≡ 8 ⌝ }
-    ensures { λ r. ⌜ r ≡ number 8 .dec (now (s .entry)) ⌝ }
+    requires { ⌜ length (now s) ≡ word .width ⌝ }
+    ensures { λ r. ⌜ r ≡ word .dec (now (s .entry)) ⌝ }
 {
-    (read_value(&s[0..4]) as u64) * 4294967296 + (read_value(&s[4..8]) as u64)
+    (read_value(&s[0..Table::VALUE]) as u64) * 4294967296
+        + (read_value(&s[Table::VALUE..Table::WORD]) as u64)
 }
 
 fn write_byte(s: &mut [u8], v: u8)
-    requires { ⌜ length (now s) ≡ 1 ⌝ }
-    ensures { λ _. ⌜ number 1 .dec (now (s .exit)) ≡ v ⌝ }
+    requires { ⌜ length (now s) ≡ byte .width ⌝ }
+    ensures { λ _. ⌜ byte .dec (now (s .exit)) ≡ v ⌝ }
 {
     s[0] = v;
 }
 
 fn write_clock(s: &mut [u8], v: u16)
-    requires { ⌜ length (now s) ≡ 2 ⌝ }
+    requires { ⌜ length (now s) ≡ clock .width ⌝ }
     ensures { λ _. ⌜ clock .dec (now (s .exit)) ≡ v ⌝ }
 {
     s[0] = (v / 256) as u8;
@@ -124,8 +155,8 @@ fn write_clock(s: &mut [u8], v: u16)
 }
 
 fn write_value(s: &mut [u8], v: u32)
-    requires { ⌜ length (now s) ≡ 4 ⌝ }
-    ensures { λ _. ⌜ number 4 .dec (now (s .exit)) ≡ v ⌝ }
+    requires { ⌜ length (now s) ≡ value .width ⌝ }
+    ensures { λ _. ⌜ value .dec (now (s .exit)) ≡ v ⌝ }
 {
     s[0] = (v / 16777216) as u8;
     s[1] = (v / 65536 % 256) as u8;
@@ -134,7 +165,7 @@ fn write_value(s: &mut [u8], v: u32)
 }
 
 fn read_vector(s: &[u8]) -> Clock
-    requires { ⌜ length (now s) ≡ 16 ⌝ }
+    requires { ⌜ length (now s) ≡ vector .width ⌝ }
     ensures { λ r. ⌜ columns r ≡ vector .dec (now (s .entry)) ⌝ }
 {
     let mut a = [0u16; 8];
@@ -148,7 +179,7 @@ fn read_vector(s: &[u8]) -> Clock
 }
 
 fn write_vector(s: &mut [u8], c: Clock)
-    requires { ⌜ length (now s) ≡ 16 ⌝ }
+    requires { ⌜ length (now s) ≡ vector .width ⌝ }
     ensures { λ _. ⌜ vector .dec (now (s .exit)) ≡ columns c ⌝ }
 {
     let a = c.col;
@@ -162,7 +193,7 @@ fn write_vector(s: &mut [u8], c: Clock)
 
 // The rows from `from` on and below `to` of a square of eight rows by eight columns.
 fn read_rows(s: &[u8], from: usize, to: usize) -> [[u16; 8]; 8]
-    requires { ⌜ (length (now s) ≡ 128) × (from ≤ to) × (to ≤ 8) ⌝ }
+    requires { ⌜ (length (now s) ≡ square .width) × (from ≤ to) × (to ≤ 8) ⌝ }
     ensures { λ r. ⌜ cells2 r ≡ rows from to (square .dec (now (s .entry))) ⌝ }
 {
     let mut a = [[0u16; 8]; 8];
@@ -178,16 +209,16 @@ fn read_rows(s: &[u8], from: usize, to: usize) -> [[u16; 8]; 8]
 }
 
 fn read_record(s: &[u8]) -> Record
-    requires { ⌜ length (now s) ≡ 24 ⌝ }
+    requires { ⌜ length (now s) ≡ fields .width ⌝ }
     ensures { λ r. ⌜ fieldsOf r ≡ fieldsAt (now (s .entry)) ⌝ }
 {
-    let value = read_value(&s[0..4]);
-    let clock = read_clock(&s[6..8]);
-    let depends = read_vector(&s[8..24]);
+    let value = read_value(&s[Table::RECORD_VALUE..Table::RECORD_TAG]);
+    let clock = read_clock(&s[Table::RECORD_CLOCK..Table::RECORD_VECTOR]);
+    let depends = read_vector(&s[Table::RECORD_VECTOR..Table::RECORD]);
     Record {
         value: value,
-        tag: s[4],
-        zero: s[5],
+        tag: s[Table::RECORD_TAG],
+        zero: s[Table::RECORD_ZERO],
         clock: clock,
         depends: depends,
     }
@@ -195,40 +226,40 @@ fn read_record(s: &[u8]) -> Record
 
 // An entry or an update is written whole.
 fn write_record(s: &mut [u8], r: Record)
-    requires { ⌜ length (now s) ≡ 24 ⌝ }
+    requires { ⌜ length (now s) ≡ fields .width ⌝ }
     ensures { λ _. ⌜ fieldsAt (now (s .exit)) ≡ fieldsOf r ⌝ }
 {
     let depends = r.depends;
-    write_value(&mut s[0..4], r.value);
-    write_byte(&mut s[4..5], r.tag);
-    write_byte(&mut s[5..6], r.zero);
-    write_clock(&mut s[6..8], r.clock);
-    write_vector(&mut s[8..24], depends);
+    write_value(&mut s[Table::RECORD_VALUE..Table::RECORD_TAG], r.value);
+    write_byte(&mut s[Table::RECORD_TAG..Table::RECORD_ZERO], r.tag);
+    write_byte(&mut s[Table::RECORD_ZERO..Table::RECORD_CLOCK], r.zero);
+    write_clock(&mut s[Table::RECORD_CLOCK..Table::RECORD_VECTOR], r.clock);
+    write_vector(&mut s[Table::RECORD_VECTOR..Table::RECORD], depends);
 }
 
 // The header: n, k and the two bytes after them.
 pub fn read_header(t: &[u8]) -> Header
-    requires { ⌜ length (now t) ≡ 15620 ⌝ }
+    requires { ⌜ length (now t) ≡ table .width ⌝ }
     ensures { λ r. ⌜ Headed r (stateOf (now (t .entry))) ⌝ }
 {
     Header {
-        n: t[0],
-        k: t[1],
-        byte2: t[2],
-        byte3: t[3],
+        n: t[Table::SITE_COUNT],
+        k: t[Table::KEY_COUNT],
+        byte2: t[Table::BYTE_2],
+        byte3: t[Table::BYTE_3],
     }
 }
 
 pub fn set_counts(t: &mut [u8], n: u8, k: u8)
-    requires { ⌜ length (now t) ≡ 15620 ⌝ }
+    requires { ⌜ length (now t) ≡ table .width ⌝ }
     ensures { λ _. ⌜ stateOf (now (t .exit)) ≡ withCounts (stateOf (now (t .entry))) n k ⌝ }
 {
-    write_byte(&mut t[0..1], n);
-    write_byte(&mut t[1..2], k);
+    write_byte(&mut t[Table::SITE_COUNT..Table::KEY_COUNT], n);
+    write_byte(&mut t[Table::KEY_COUNT..Table::BYTE_2], k);
 }
 
 fn clear_block(s: &mut [u8])
-    requires { ⌜ length (now s) ≡ 132 ⌝ }
+    requires { ⌜ length (now s) ≡ block ⌝ }
     ensures { λ _. ⌜ Zeros (now (s .exit)) ⌝ }
 {
     let mut i = 0;
@@ -240,7 +271,7 @@ fn clear_block(s: &mut [u8])
 
 // All bytes zero. The blocks overlap, or the compiler would make of them a call of the host's memset.
 pub fn clear(t: &mut [u8])
-    requires { ⌜ length (now t) ≡ 15620 ⌝ }
+    requires { ⌜ length (now t) ≡ table .width ⌝ }
     ensures { λ _. ⌜ stateOf (now (t .exit)) ≡ allZero ⌝ }
 {
     let mut i = 0;
@@ -253,14 +284,14 @@ pub fn clear(t: &mut [u8])
 
 // Rows of the applied counts and of the dependencies, a row for each site.
 pub fn applied(t: &[u8], from: usize, to: usize) -> [[u16; 8]; 8]
-    requires { ⌜ (length (now t) ≡ 15620) × (from ≤ to) × (to ≤ 8) ⌝ }
+    requires { ⌜ (length (now t) ≡ table .width) × (from ≤ to) × (to ≤ 8) ⌝ }
     ensures { λ r. ⌜ cells2 r ≡ rows from to (stateOf (now (t .entry)) .applied) ⌝ }
 {
     read_rows(&t[Table::APPLIED..Table::APPLIED + Table::SQUARE], from, to)
 }
 
 pub fn depends(t: &[u8], from: usize, to: usize) -> [[u16; 8]; 8]
-    requires { ⌜ (length (now t) ≡ 15620) × (from ≤ to) × (to ≤ 8) ⌝ }
+    requires { ⌜ (length (now t) ≡ table .width) × (from ≤ to) × (to ≤ 8) ⌝ }
     ensures { λ r. ⌜ cells2 r ≡ rows from to (stateOf (now (t .entry)) .depends) ⌝ }
 {
     read_rows(&t[Table::DEPENDS..Table::DEPENDS + Table::SQUARE], from, to)
@@ -268,7 +299,7 @@ pub fn depends(t: &[u8], from: usize, to: usize) -> [[u16; 8]; 8]
 
 // One number of them.
 pub fn applied_at(t: &[u8], s: usize, o: usize) -> u16
-    requires { ⌜ (length (now t) ≡ 15620) × (s < 8) × (o < 8) ⌝ }
+    requires { ⌜ (length (now t) ≡ table .width) × (s < 8) × (o < 8) ⌝ }
     ensures { λ r. ⌜ r ≡ stateOf (now (t .entry)) .applied s o ⌝ }
 {
     let at = Table::APPLIED + (s * Table::SITES + o) * Table::CLOCK;
@@ -276,7 +307,7 @@ pub fn applied_at(t: &[u8], s: usize, o: usize) -> u16
 }
 
 pub fn depends_at(t: &[u8], s: usize, o: usize) -> u16
-    requires { ⌜ (length (now t) ≡ 15620) × (s < 8) × (o < 8) ⌝ }
+    requires { ⌜ (length (now t) ≡ table .width) × (s < 8) × (o < 8) ⌝ }
     ensures { λ r. ⌜ r ≡ stateOf (now (t .entry)) .depends s o ⌝ }
 {
     let at = Table::DEPENDS + (s * Table::SITES + o) * Table::CLOCK;
@@ -284,7 +315,7 @@ pub fn depends_at(t: &[u8], s: usize, o: usize) -> u16
 }
 
 pub fn entry_at(t: &[u8], s: usize, x: usize) -> Record
-    requires { ⌜ (length (now t) ≡ 15620) × (s < 8) × (x < 64) ⌝ }
+    requires { ⌜ (length (now t) ≡ table .width) × (s < 8) × (x < 64) ⌝ }
     ensures { λ r. ⌜ entryOf r ≡ stateOf (now (t .entry)) .store s x ⌝ }
 {
     let at = Table::STORE + (s * Table::KEYS + x) * Table::RECORD;
@@ -292,7 +323,7 @@ pub fn entry_at(t: &[u8], s: usize, x: usize) -> Record
 }
 
 pub fn update_at(t: &[u8], o: usize, p: usize) -> Record
-    requires { ⌜ (length (now t) ≡ 15620) × (o < 8) × (p < 16) ⌝ }
+    requires { ⌜ (length (now t) ≡ table .width) × (o < 8) × (p < 16) ⌝ }
     ensures { λ r. ⌜ updateOf r ≡ stateOf (now (t .entry)) .updates o p ⌝ }
 {
     let at = Table::UPDATES + (o * Table::PLACES + p) * Table::RECORD;
@@ -300,7 +331,7 @@ pub fn update_at(t: &[u8], o: usize, p: usize) -> Record
 }
 
 pub fn set_applied(t: &mut [u8], s: usize, o: usize, c: u16)
-    requires { ⌜ (length (now t) ≡ 15620) × (s < 8) × (o < 8) ⌝ }
+    requires { ⌜ (length (now t) ≡ table .width) × (s < 8) × (o < 8) ⌝ }
     ensures { λ _. ⌜ stateOf (now (t .exit)) ≡ withApplied (stateOf (now (t .entry))) (stateOf (now (t .entry)) .applied ⟨ s ⟩⟨ o ≔ c ⟩) ⌝ }
 {
     let at = Table::APPLIED + (s * Table::SITES + o) * Table::CLOCK;
@@ -308,7 +339,7 @@ pub fn set_applied(t: &mut [u8], s: usize, o: usize, c: u16)
 }
 
 pub fn set_depends_at(t: &mut [u8], s: usize, o: usize, c: u16)
-    requires { ⌜ (length (now t) ≡ 15620) × (s < 8) × (o < 8) ⌝ }
+    requires { ⌜ (length (now t) ≡ table .width) × (s < 8) × (o < 8) ⌝ }
     ensures { λ _. ⌜ stateOf (now (t .exit)) ≡ withDepends (stateOf (now (t .entry))) (stateOf (now (t .entry)) .depends ⟨ s ⟩⟨ o ≔ c ⟩) ⌝ }
 {
     let at = Table::DEPENDS + (s * Table::SITES + o) * Table::CLOCK;
@@ -316,7 +347,7 @@ pub fn set_depends_at(t: &mut [u8], s: usize, o: usize, c: u16)
 }
 
 pub fn set_depends(t: &mut [u8], s: usize, v: Clock)
-    requires { ⌜ (length (now t) ≡ 15620) × (s < 8) ⌝ }
+    requires { ⌜ (length (now t) ≡ table .width) × (s < 8) ⌝ }
     ensures { λ _. ⌜ stateOf (now (t .exit)) ≡ withDepends (stateOf (now (t .entry))) (stateOf (now (t .entry)) .depends ⟨ s ≔ columns v ⟩) ⌝ }
 {
     let at = Table::DEPENDS + s * Table::VECTOR;
@@ -324,7 +355,7 @@ pub fn set_depends(t: &mut [u8], s: usize, v: Clock)
 }
 
 pub fn set_entry(t: &mut [u8], s: usize, x: usize, e: Record)
-    requires { ⌜ (length (now t) ≡ 15620) × (s < 8) × (x < 64) ⌝ }
+    requires { ⌜ (length (now t) ≡ table .width) × (s < 8) × (x < 64) ⌝ }
     ensures { λ _. ⌜ stateOf (now (t .exit)) ≡ withStore (stateOf (now (t .entry))) (stateOf (now (t .entry)) .store ⟨ s ⟩⟨ x ≔ entryOf e ⟩) ⌝ }
 {
     let at = Table::STORE + (s * Table::KEYS + x) * Table::RECORD;
@@ -332,7 +363,7 @@ pub fn set_entry(t: &mut [u8], s: usize, x: usize, e: Record)
 }
 
 pub fn set_update(t: &mut [u8], o: usize, p: usize, u: Record)
-    requires { ⌜ (length (now t) ≡ 15620) × (o < 8) × (p < 16) ⌝ }
+    requires { ⌜ (length (now t) ≡ table .width) × (o < 8) × (p < 16) ⌝ }
     ensures { λ _. ⌜ stateOf (now (t .exit)) ≡ withUpdates (stateOf (now (t .entry))) (stateOf (now (t .entry)) .updates ⟨ o ⟩⟨ p ≔ updateOf u ⟩) ⌝ }
 {
     let at = Table::UPDATES + (o * Table::PLACES + p) * Table::RECORD;

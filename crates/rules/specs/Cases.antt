@@ -1,6 +1,6 @@
 -- The starred cases of document 01 and its schedule, as one table of calls and what they show, with one proof. Assumes nothing.
 use mathlib.Core.Path.{_≡_, refl}
-use mathlib.Core.List.{List, [], _∷_, _++_, map}
+use mathlib.Core.List.{List, [], _∷_, _++_}
 use Prim.Native.Nat.{ℕ}
 use lib.Dec.{eqb}
 use Rattle.clock.specs.Map.{if_then_else_, all, any, least}
@@ -18,28 +18,28 @@ unfolding all any least sound header counted blank written smallest lowest holds
 rules = 0
 
 -- calls on a freshly opened table, their answers, and what is seen of the table before and after the last call
-record Case : Type 0 where
-  number : ℕ
-  table : State
-  calls : List Call
-  answers : List Numbers
-  look : State → State → List ℕ
-  seen : List ℕ
+pub record Case : Type 0 where
+  pub number : ℕ
+  pub table : State
+  pub calls : List Call
+  pub answers : List Numbers
+  pub look : State → State → List ℕ
+  pub seen : List ℕ
 
-abbrev answered : State → List Call → List Numbers
+abbrev pub answered : State → List Call → List Numbers
 answered S [] = []
 answered S (c ∷ cs) = run S c .answer ∷ answered (run S c .after) cs
 
-abbrev sight : (State → State → List ℕ) → State → List Call → List ℕ
+abbrev pub sight : (State → State → List ℕ) → State → List Call → List ℕ
 sight f S [] = []
 sight f S (c ∷ []) = f S (run S c .after)
 sight f S (c ∷ d ∷ cs) = sight f (run S c .after) (d ∷ cs)
 
-abbrev case : ℕ → State → List Call → List Numbers → Case
+abbrev pub case : ℕ → State → List Call → List Numbers → Case
 case i S cs rs = record { number = i; table = S; calls = cs; answers = rs; look = λ S T. []; seen = [] }
 
 -- a case with a sentence on the table
-abbrev case-of : ℕ → State → List Call → List Numbers → (State → State → List ℕ) → List ℕ → Case
+abbrev pub case-of : ℕ → State → List Call → List Numbers → (State → State → List ℕ) → List ℕ → Case
 case-of i S cs rs f l = record { number = i; table = S; calls = cs; answers = rs; look = f; seen = l }
 
 -- 1 where all bytes are the same
@@ -57,13 +57,13 @@ fives =
     done 0 0 1 5 ∷ done 0 0 2 5 ∷ done 0 0 3 5 ∷ done 0 0 4 5 ∷ done 0 0 5 5 ∷ done 0 0 6 5 ∷ done 0 0 7 5 ∷ done 0 0 8 5
     ∷ done 0 0 9 5 ∷ done 0 0 10 5 ∷ done 0 0 11 5 ∷ done 0 0 12 5 ∷ done 0 0 13 5 ∷ done 0 0 14 5 ∷ done 0 0 15 5 ∷ done 0 0 16 5 ∷ []
 
-abbrev ten : (site clock : ℕ) → Numbers
+abbrev pub ten : (site clock : ℕ) → Numbers
 ten j c = record { code = 10; key = 0; site = j; clock = c; value = 0 }
 
-abbrev spent : (deliveries tries : ℕ) → Numbers
+abbrev pub spent : (deliveries tries : ℕ) → Numbers
 spent d t = record { code = 11; key = 0; site = 0; clock = d; value = t }
 
-cases : List Case
+unfoldable pub cases : List Case
 cases =
     case 1 (opened 2 2) (Put 0 0 5 ∷ []) (done 0 0 1 5 ∷ [])
     ∷ case 3 (opened 2 2) (Put 1 0 5 ∷ Put 2 0 5 ∷ []) (done 0 1 1 5 ∷ refused 4 ∷ [])
@@ -86,12 +86,17 @@ cases =
     (done 1 0 1 7 ∷ done 1 0 1 7 ∷ done 1 0 1 7 ∷ done 2 1 1 9 ∷ ten 0 1 ∷ done 0 0 2 6 ∷ done 1 0 1 7 ∷ [])
     ∷ []
 
-abbrev computed : Case → List Numbers × List ℕ
+abbrev pub computed : Case → List Numbers × List ℕ
 computed c = (answered (c .table) (c .calls), sight (c .look) (c .table) (c .calls))
 
-abbrev expected : Case → List Numbers × List ℕ
+abbrev pub expected : Case → List Numbers × List ℕ
 expected c = (c .answers, c .seen)
 
-starred : map computed cases ≡ map expected cases
+-- each case answers as it says, and shows what it says
+abbrev pub Computed : List Case → Type 0
+Computed [] = Unit {0}
+Computed (c ∷ cs) = (computed c ≡ expected c) × Computed cs
+
+pub starred : Computed cases
 unfolding rules bytesOf cases
-starred = refl
+starred = (refl, (refl, (refl, (refl, (refl, (refl, (refl, (refl, (refl, (refl, (refl, (refl, (refl, (refl, tt))))))))))))))

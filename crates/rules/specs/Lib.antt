@@ -4,4 +4,5 @@ pub mod Refusals
 pub mod Drain
 pub mod Calls
 pub mod Cases
-pub mod Theorems
+pub mod SoundCases
+pub mod Bounds

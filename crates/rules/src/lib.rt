@@ -1,1 +1,1 @@
-// The rules: definitions and theorems, no code.
+// The rules: definitions and worked cases, no code.

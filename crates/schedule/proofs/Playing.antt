@@ -8,14 +8,14 @@ use lib.Dec.{eqb}
 use lib.ListN.{length, getD, replicate, length-replicate}
 use Rattle.clock.specs.Map.{if_then_else_}
 use Rattle.clock.proofs.Maps.{choice}
-use Rattle.layout.specs.State.{State, allZero, stateOf}
+use Rattle.layout.specs.State.{State, allZero, stateOf, table}
 use Rattle.layout.specs.Ranges.{Bytes}
 use Rattle.clock.proofs.Cells.{cells-zeros}
 use Rattle.layout.proofs.Zeros.{all-zero}
 use Rattle.rules.specs.Steps.{refused}
 use Rattle.rules.specs.Calls.{Open, Drain, run, serve}
-use Rattle.rules.proofs.Outcomes.{outcome, outcome-is}
-use Rattle.rules.proofs.Fitting.{Sized, put-sized, get-sized, deliver-sized}
+use Rattle.laws.proofs.Outcomes.{outcome, outcome-is}
+use Rattle.laws.proofs.Fitting.{Sized, put-sized, get-sized, deliver-sized}
 use Rattle.schedule.specs.declared.Step.{Step}
 use Rattle.schedule.specs.Step.{callOf, unused-zero, played, played-on}
 
@@ -33,7 +33,7 @@ call-sized p h =
     choice (eqb (p .operation) 2) Sized (λ e. deliver-sized (p .site) (p .origin)) λ e.
     drain-sized (p .site) 903
 
-module _ (t : List ℕ) (long : length t ≡ 15620) (bytes : Bytes t) where
+module _ (t : List ℕ) (long : length t ≡ table .width) (bytes : Bytes t) where
   open-is : (n k : ℕ) → outcome (serve t (Open n k)) ≡ run (stateOf t) (Open n k)
   open-is n k = outcome-is t (Open n k) long bytes (open-sized n k)
 
@@ -46,9 +46,9 @@ module _ (t : List ℕ) (long : length t ≡ 15620) (bytes : Bytes t) where
       go false = refl
 
 -- on bytes that are all zero
-pub open-zeros : (n k : ℕ) → outcome (serve (replicate 15620 0) (Open n k)) ≡ run allZero (Open n k)
+pub open-zeros : (n k : ℕ) → outcome (serve (replicate (table .width) 0) (Open n k)) ≡ run allZero (Open n k)
 unfolding Bytes
 open-zeros n k =
-    let z : (i : ℕ) → getD {A = ℕ} (replicate 15620 0) i 0 ≡ 0 = λ i. ap (λ (g : ℕ → ℕ). g i) (cells-zeros 15620) in
-    open-is (replicate 15620 0) (length-replicate {A = ℕ} 15620 0) (λ i. omega (arith, z i)) n k
-    ∙ ap (λ (S : State). run S (Open n k)) (all-zero (replicate 15620 0) z)
+    let z : (i : ℕ) → getD {A = ℕ} (replicate (table .width) 0) i 0 ≡ 0 = λ i. ap (λ (g : ℕ → ℕ). g i) (cells-zeros (table .width)) in
+    open-is (replicate (table .width) 0) (length-replicate {A = ℕ} (table .width) 0) (λ i. omega (arith, z i)) n k
+    ∙ ap (λ (S : State). run S (Open n k)) (all-zero (replicate (table .width) 0) z)

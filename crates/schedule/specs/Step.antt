@@ -1,4 +1,5 @@
 -- A schedule's step: its fields, the call it makes, and what it answers and leaves. Assumes nothing.
+use mathlib.Core.Path.{_≡_}
 use mathlib.Core.Bool.{Bool, _&&_}
 use mathlib.Core.List.{List}
 use Prim.Native.Nat.{ℕ, _/_, _%_, _^_}
@@ -47,3 +48,7 @@ played S p = if unused-zero p then run S (callOf p) else record { answer = refus
 -- the same on the bytes of a lent table, of any length
 unfoldable pub played-on : List ℕ → Step → Served
 played-on t p = if unused-zero p then serve t (callOf p) else record { answer = refused 12; bytes = t }
+
+-- the promise of `play`: on the bytes t a step answers and leaves that
+abbrev pub Promise : List ℕ → Step → Served → Type 0
+Promise t p w = w ≡ played-on t p

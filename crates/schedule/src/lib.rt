@@ -4,11 +4,11 @@ ghost use mathlib.Core.List.{[], _∷_};
 ghost use Prim.Native.Nat.{_+_, _^_, _≤_, _<_};
 ghost use lib.ListN.{length, drop};
 ghost use Rattle.layout.specs.Codec.{numberOf};
-ghost use Rattle.layout.specs.State.{stateOf};
+ghost use Rattle.layout.specs.State.{stateOf, table};
 ghost use Rattle.rules.specs.Steps.{refused};
 ghost use Rattle.rules.specs.Calls.{serve};
 ghost use Rattle.table.specs.Answers.{numbersOf, served};
-ghost use Rattle.schedule.specs.Step.{stepOf, zero, unused-zero, callOf, played-on};
+ghost use Rattle.schedule.specs.Step.{stepOf, zero, unused-zero, callOf, Promise};
 ghost use Rattle.schedule.specs.Text.{decimal, word, line};
 ghost use Rattle.schedule.specs.Listing.{last-line, listed, listing};
 ghost use Rattle.schedule.specs.Written.{Written, Counts, Blank, answered, Stepped};
@@ -113,7 +113,7 @@ fn call(t: &mut [u8], p: Step) -> Answer
 
 // One step on a lent table; 12 comes before all others.
 pub fn play(t: &mut [u8], p: Step) -> Five
-    ensures { λ r. ⌜ answered r (now (t .exit)) ≡ played-on (now (t .entry)) p ⌝ }
+    ensures { λ r. ⌜ Promise (now (t .entry)) p (answered r (now (t .exit))) ⌝ }
 {
     if unused_zero(p) {
         numbers::numbers_of(call(t, p))
@@ -202,7 +202,7 @@ fn write_end(out: &mut [u8], at: usize, steps: u32, left: u32) -> usize
 
 // Plays a step and writes its line.
 fn write_step(step: &[u8], t: &mut [u8], out: &mut [u8], at: usize, i: u32) -> usize
-    requires { ⌜ (length (now step) ≡ 6) × (length (now t) ≡ 15620) × (at + 66 ≤ length (now out)) ⌝ }
+    requires { ⌜ (length (now step) ≡ 6) × (length (now t) ≡ table .width) × (at + 66 ≤ length (now out)) ⌝ }
     ensures { λ r. ⌜ Stepped (now (step .entry)) (now (t .entry)) (now (out .entry)) at i r (now (t .exit)) (now (out .exit)) ⌝ }
 {
     let a = play(t, decode(step));
@@ -211,7 +211,7 @@ fn write_step(step: &[u8], t: &mut [u8], out: &mut [u8], at: usize, i: u32) -> u
 
 // A line for each step, and the last.
 fn write_steps(input: &[u8], t: &mut [u8], out: &mut [u8], at: usize) -> usize
-    requires { ⌜ (2 ≤ length (now input)) × (length (now t) ≡ 15620) × (at + 720867 ≤ length (now out)) ⌝ }
+    requires { ⌜ (2 ≤ length (now input)) × (length (now t) ≡ table .width) × (at + 720867 ≤ length (now out)) ⌝ }
     ensures { λ r. ⌜ Written (now (out .entry)) at (listed 10922 (stateOf (now (t .entry))) 0 (drop 2 (now (input .entry)))) r (now (out .exit)) ⌝ }
 {
     let mut from = Schedule::HEADER;

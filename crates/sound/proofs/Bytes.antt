@@ -7,22 +7,21 @@ use Prim.Native.Nat.{ℕ, suc, _+_, _*_, _-_, _%_, _≤_, _<_}
 use native.Mathlib.Numerals.{add-one}
 use native.Mathlib.Omega.{arith}
 use lib.ListN.{length, getD}
-use lib.Dec.{eqb, ltb, leb}
-use borrow.Author.Tests.{leb-true, lt-leb, ltb-true, ltb-false, eqb-true, eqb-false, ne-eqb}
+use lib.Dec.{eqb, ltb}
+use borrow.Author.Tests.{lt-leb, ltb-true, ltb-false, eqb-true, eqb-false, ne-eqb}
 use Rattle.clock.specs.Map.{all}
 use Rattle.clock.specs.Vector.{Vector}
-use Rattle.clock.proofs.Maps.{true-or-false, eq?}
-use Rattle.clock.proofs.Below.{and-split}
-use Rattle.layout.specs.Codec.{number}
-use Rattle.layout.specs.State.{State, toEntry, toUpdate, stateOf}
+use Rattle.clock.proofs.Maps.{true-or-false}
+use Rattle.clock.proofs.Says.{says-itself, says-same, says-eq, says-and}
+use Rattle.layout.specs.State.{State, fields, toEntry, toUpdate, stateOf, table, storeAt, updatesAt}
 use Rattle.layout.specs.Ranges.{Bytes, Zeros}
-use Rattle.layout.specs.Records.{fieldsAt}
+use Rattle.layout.specs.Records.{word, fieldsAt}
 use Rattle.layout.proofs.Zeros.{zero-number, number-zero, zeros-part, zeros-long, zero-fields, fields-zero}
 use Rattle.layout.proofs.Splice.{part, getD-part, length-part}
 use Rattle.layout.proofs.RoundTrip.{bytes-part}
 use Rattle.layout.proofs.Places.{clock-bytes, entry-read, update-read}
 use Rattle.rules.specs.Sound.{Blank, blank, place, sound, header, counted, written, lowest, holds, retains}
-use Rattle.rules.proofs.Tested.{blank-says}
+use Rattle.laws.proofs.Tested.{range-says, blank-says}
 use Rattle.sound.specs.Checks.{rangeIn, headerIn, markIn, marksIn, putIn, writtenIn, heldIn, bodyIn}
 use Rattle.sound.proofs.Origins.{bySite, by-origin}
 
@@ -30,7 +29,7 @@ module _ (l : List ℕ) where
   blank-of : Zeros l → Blank (toEntry (fieldsAt l))
   blank-of h = rw (zero-fields l h) (record { value = refl; origin = refl; zero = refl; clock = refl; depends = λ j k. refl })
 
-  zero-bytes : length l ≡ 24 → Bytes l → (blank (toEntry (fieldsAt l)) ≡ true) ↔ Zeros l
+  zero-bytes : length l ≡ fields .width → Bytes l → (blank (toEntry (fieldsAt l)) ≡ true) ↔ Zeros l
   zero-bytes hl hb = (
     (λ e.
         let b = blank-says (toEntry (fieldsAt l)) .0 e in
@@ -39,9 +38,9 @@ module _ (l : List ℕ) where
   )
 
   -- the first word tells a written entry from a blank one
-  module _ (hl : length l ≡ 24) (hb : Bytes l) (n : ℕ) (row : Vector) where
+  module _ (hl : length l ≡ fields .width) (hb : Bytes l) (n : ℕ) (row : Vector) where
     abbrev at-word : ℕ → ℕ
-    at-word o = number 8 .dec (part l o 8)
+    at-word o = word .dec (part l o 8)
 
     full : (o : ℕ) → at-word o ≢ 0 → blank (toEntry (fieldsAt l)) ≡ false
     full o h =
@@ -82,26 +81,26 @@ module _ (l : List ℕ) where
         (true-or-false (eqb (at-word 8) 0))
 
 -- the same of an entry in its place, as code reads it
-module _ (t : List ℕ) (ht : length t ≡ 15620) (hb : Bytes t) (s x : ℕ) (hs : s < 8) (hx : x < 64) (n : ℕ) (row : Vector) where
+module _ (t : List ℕ) (ht : length t ≡ table .width) (hb : Bytes t) (s x : ℕ) (hs : s < 8) (hx : x < 64) (n : ℕ) (row : Vector) where
   abbrev at : ℕ
-  at = 260 + s * 1536 + x * 24
+  at = storeAt + s * (64 * fields .width) + x * fields .width
 
   abbrev entry : List ℕ
-  entry = part t at (at + 24 - at)
+  entry = part t at (at + fields .width - at)
 
-  long : length entry ≡ 24
-  long = length-part t at (at + 24 - at) (omega arith) ∙ omega arith
+  long : length entry ≡ fields .width
+  long = length-part t at (at + fields .width - at) (omega arith) ∙ omega arith
 
   there : toEntry (fieldsAt entry) ≡ stateOf t .store s x
   there =
-      let e : at ≡ 260 + (s * 64 + x) * 24 = omega arith in
-      ap (λ (o : ℕ). toEntry (fieldsAt (part t o (o + 24 - o)))) e ∙ entry-read t s x hs hx
+      let e : at ≡ storeAt + (s * 64 + x) * fields .width = omega arith in
+      ap (λ (o : ℕ). toEntry (fieldsAt (part t o (o + fields .width - o)))) e ∙ entry-read t s x hs hx
 
-  pub blank-here : number 8 .dec (part entry 0 8) ≡ 0 → writtenIn n row (stateOf t .store s x) ≡ eqb (marksIn entry) 0
-  blank-here z = sym (ap (writtenIn n row) there) ∙ blank-word entry long (bytes-part t at (at + 24 - at) hb) n row z
+  pub blank-here : word .dec (part entry 0 8) ≡ 0 → writtenIn n row (stateOf t .store s x) ≡ eqb (marksIn entry) 0
+  blank-here z = sym (ap (writtenIn n row) there) ∙ blank-word entry long (bytes-part t at (at + fields .width - at) hb) n row z
 
-  pub put-here : number 8 .dec (part entry 0 8) ≢ 0 → (r b : Bool) → r ≡ putIn n row (stateOf t .store s x) → r ≡ b → writtenIn n row (stateOf t .store s x) ≡ b
-  put-here h r b e q = rw (sym (ap blank there) ∙ full entry long (bytes-part t at (at + 24 - at) hb) n row 0 h) (sym e ∙ q)
+  pub put-here : word .dec (part entry 0 8) ≢ 0 → (r b : Bool) → r ≡ putIn n row (stateOf t .store s x) → r ≡ b → writtenIn n row (stateOf t .store s x) ≡ b
+  put-here h r b e q = rw (sym (ap blank there) ∙ full entry long (bytes-part t at (at + fields .width - at) hb) n row 0 h) (sym e ∙ q)
 
 -- one entry more, with m marks
 pub entry-more : (p : ℕ → Bool) (x stray m sum : ℕ) → all x p ≡ eqb stray 0 → p x ≡ eqb m 0 → sum ≡ stray + m → all (x + 1) p ≡ eqb sum 0
@@ -109,16 +108,12 @@ unfolding all
 entry-more p x stray m sum e f g = rw (add-one, e, f, g) (none stray m)
   where
     none : (a b : ℕ) → eqb a 0 && eqb b 0 ≡ eqb (a + b) 0
-    none a b =
-        ⊎-elim
-        (λ (h : a ≡ 0). let e : b ≡ 0 + b = omega arith in rw h (ap (λ (c : ℕ). eqb c 0) e))
-        (λ (h : a ≢ 0). rw (ne-eqb a 0 h, ne-eqb (a + b) 0 (omega arith)))
-        (eq? a 0)
+    none a b = says-same (says-and (says-eq a 0) (says-eq b 0)) (says-eq (a + b) 0) ((λ r. omega (arith, r .0, r .1)), λ r. (omega arith, omega arith))
 
 -- the update with clock low + suc i, where code reads it
 pub held-at : (t : List ℕ) (k o low i : ℕ) → o < 8
-    → let at = 12548 + (o * 16 + (low + i) % 16) * 24 in
-    heldIn k (low + i + 1) (toUpdate (fieldsAt (part t at (at + 24 - at)))) ≡ heldIn k (low + suc i) (stateOf t .updates o (place (low + suc i)))
+    → let at = updatesAt + (o * 16 + (low + i) % 16) * fields .width in
+    heldIn k (low + i + 1) (toUpdate (fieldsAt (part t at (at + fields .width - at)))) ≡ heldIn k (low + suc i) (stateOf t .updates o (place (low + suc i)))
 held-at t k o low i ho =
     let e : low + i + 1 ≡ low + suc i = omega arith in
     let p : low + i ≡ low + suc i - 1 = omega arith in
@@ -139,9 +134,7 @@ module _ (S : State) (n k y z : ℕ) (en : n ≡ S .n) (ek : k ≡ S .k) (ey : y
   sound-body h = by-origin S (S .applied) n k ∙ (λ i. bySite S (S .applied) (en i) (ek i)) ∙ sym (rw (sym header-is ∙ h))
 
 pub range : (n k : ℕ) → rangeIn n k ≡ true → (n ≤ 8) × (k ≤ 64)
-range n k h =
-    let b = and-split (leb 1 n && leb n 8 && leb 1 k) (leb k 64) h in
-    (leb-true n 8 (and-split (leb 1 n) (leb n 8) (and-split (leb 1 n && leb n 8) (leb 1 k) (b .0) .0) .1), leb-true k 64 (b .1))
+range n k h = let r = range-says n k .0 h in (r .0 .0 .1, r .1)
 
 pub header-range : (n k y z : ℕ) → headerIn n k y z ≡ true → (n ≤ 8) × (k ≤ 64)
-header-range n k y z h = range n k (and-split (rangeIn n k) (eqb y 0) (and-split (rangeIn n k && eqb y 0) (eqb z 0) h .0) .0)
+header-range n k y z h = range n k (says-and (says-and (says-itself (rangeIn n k)) (says-eq y 0)) (says-eq z 0) .0 h .0 .0)

@@ -5,14 +5,13 @@ use mathlib.Core.Logic.{⊎-elim}
 use Prim.Native.Nat.{ℕ, _+_, _≤_, _<_}
 use native.Mathlib.Omega.{arith}
 use lib.Dec.{leb}
-use borrow.Author.Tests.{leb-true, le-leb}
 use Rattle.clock.specs.Map.{all}
 use Rattle.clock.specs.Vector.{Vector}
-use Rattle.clock.proofs.Maps.{same-test}
-use Rattle.clock.proofs.Below.{and-split, and-both, all-true, all-intro, all-same}
+use Rattle.clock.proofs.Says.{says-itself, says-same, says-le, says-and, says-all}
+use Rattle.clock.proofs.Below.{all-same}
 use Rattle.layout.specs.State.{State}
 use Rattle.rules.specs.Sound.{smallest}
-use Rattle.rules.proofs.Tested.{smallest-le, smallest-is, smallest-same}
+use Rattle.laws.proofs.Tested.{smallest-le, smallest-is, smallest-same}
 use Rattle.sound.specs.Checks.{writtenIn, entriesIn, lowestIn, retainedIn, lagIn, originIn, originsIn, bodyIn}
 
 abbrev pub countsIn : (ℕ → Vector) → (n : ℕ) → Bool
@@ -27,36 +26,27 @@ bySite S a n k = countsIn a n && entriesIn S a n k && updatesIn S a n k
 
 module _ (S : State) (a : ℕ → Vector) (n k : ℕ) where
   pub by-origin : bodyIn S a n k ≡ bySite S a n k
-  by-origin = same-test (bodyIn S a n k) (bySite S a n k) there back
+  by-origin =
+      says-same
+      (says-and (says-itself (entriesIn S a n k))
+      (says-all (originIn S a n k) _ n (λ o. says-and (says-all _ _ n (λ s. says-le (a s o) (a o o))) (says-and (says-le (a o o) (lowestIn a n o + 16)) (says-itself (kept o))))))
+      (says-and (says-and (says-all _ _ n (λ s. says-all _ _ n (λ o. says-and (says-le (a s o) (a o o)) (says-le (a o o) (a s o + 16))))) (says-itself (entriesIn S a n k)))
+      (says-all kept _ n (λ o. says-itself (kept o)))) (
+        (λ r. (
+          ((λ s hs o ho. (r .1 o ho .0 s hs, omega (arith, smallest-le n (λ s. a s o) (a o o) s hs, r .1 o ho .1 .0))), r .0),
+          λ o ho. r .1 o ho .1 .1,
+        )),
+        λ r. (
+          r .0 .1,
+          λ o ho. (
+            (λ s hs. r .0 .0 s hs o ho .0),
+            (⊎-elim (λ q. omega arith) (λ q. omega (arith, q .2, r .0 .0 (q .0) (q .1) o ho .1)) (smallest-is n (λ s. a s o) (a o o)), r .1 o ho),
+          ),
+        ),
+      )
     where
-      there : bodyIn S a n k ≡ true → bySite S a n k ≡ true
-      there h =
-          let e = and-split (entriesIn S a n k) (originsIn S a n k) h in
-          let origin : (o : ℕ) → o < n → (all n (λ s. leb (a s o) (a o o)) ≡ true) × (lagIn S k o (lowestIn a n o) (a o o) ≡ true) =
-          λ o ho. and-split _ _ (all-true (originIn S a n k) n (e .1) o ho) in
-          let lag : (o : ℕ) → o < n → (leb (a o o) (lowestIn a n o + 16) ≡ true) × (retainedIn S k o (lowestIn a n o) (a o o) ≡ true) =
-          λ o ho. and-split _ _ (origin o ho .1) in
-          and-both _ _
-          (and-both _ _
-          (all-intro _ n λ s hs. all-intro _ n λ o ho.
-          and-both _ _ (all-true _ n (origin o ho .0) s hs)
-          (le-leb (a o o) (a s o + 16) (omega (arith, smallest-le n (λ s. a s o) (a o o) s hs, leb-true (a o o) (lowestIn a n o + 16) (lag o ho .0)))))
-          (e .0))
-          (all-intro _ n λ o ho. lag o ho .1)
-
-      back : bySite S a n k ≡ true → bodyIn S a n k ≡ true
-      back h =
-          let u = and-split (countsIn a n && entriesIn S a n k) (updatesIn S a n k) h in
-          let e = and-split (countsIn a n) (entriesIn S a n k) (u .0) in
-          let counted : (s o : ℕ) → s < n → o < n → (leb (a s o) (a o o) ≡ true) × (leb (a o o) (a s o + 16) ≡ true) =
-          λ s o hs ho. and-split _ _ (all-true (λ o. leb (a s o) (a o o) && leb (a o o) (a s o + 16)) n (all-true _ n (e .0) s hs) o ho) in
-          and-both _ _ (e .1)
-          (all-intro _ n λ o ho.
-          and-both _ _ (all-intro _ n λ s hs. counted s o hs ho .0)
-          (and-both _ _
-          (le-leb (a o o) (lowestIn a n o + 16)
-          (⊎-elim (λ q. omega arith) (λ q. omega (arith, q .2, leb-true (a o o) (a (q .0) o + 16) (counted (q .0) o (q .1) ho .1))) (smallest-is n (λ s. a s o) (a o o))))
-          (all-true _ n (u .1) o ho)))
+      kept : ℕ → Bool
+      kept o = retainedIn S k o (lowestIn a n o) (a o o)
 
   -- the smallest count is at hand when the sites are through
   pub lag-is : (o s : ℕ) {low top : ℕ} {r : Bool} → r ≡ lagIn S k o low top → low ≡ smallest s (λ s. a s o) (a o o) → s ≤ n → n ≤ s → top ≡ a o o

@@ -7,8 +7,8 @@ use lib.Dec.{eqb, ltb, leb}
 use lib.ListN.{take, drop}
 use Rattle.clock.specs.Map.{if_then_else_, all}
 use Rattle.clock.specs.Vector.{Vector}
-use Rattle.layout.specs.Codec.{number}
-use Rattle.layout.specs.State.{State, Entry, Update}
+use Rattle.layout.specs.State.{State, Entry, Update, vector, fields}
+use Rattle.layout.specs.Records.{word}
 use Rattle.rules.specs.Sound.{blank, smallest, place}
 
 -- n and k are in range
@@ -31,9 +31,11 @@ writtenIn n row e = blank e || putIn n row e
 abbrev pub markIn : ℕ → ℕ
 markIn w = if eqb w 0 then 0 else 1
 
--- how many of the two words of a vector, from byte 8 of its 24 on, are not 0
+-- how many of the two words of an entry's vector, the last of its bytes, are not 0
 abbrev pub marksIn : List ℕ → ℕ
-marksIn l = markIn (number 8 .dec (take 8 (drop 8 l))) + markIn (number 8 .dec (take 8 (drop 16 l)))
+marksIn l =
+    let at = fields .width - vector .width in
+    markIn (word .dec (take (word .width) (drop at l))) + markIn (word .dec (take (word .width) (drop (at + word .width) l)))
 
 -- for s below n and each key below k
 abbrev pub entriesIn : State → (ℕ → Vector) → (n k : ℕ) → Bool

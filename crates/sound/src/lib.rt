@@ -3,7 +3,7 @@ ghost use mathlib.Core.Path.{_≡_};
 ghost use Prim.Native.Nat.{_≤_, _<_, min};
 ghost use lib.ListN.{length};
 ghost use Rattle.clock.specs.Clock.{cells};
-ghost use Rattle.layout.specs.State.{stateOf, toUpdate};
+ghost use Rattle.layout.specs.State.{stateOf, fields, toUpdate, lastClock, table};
 ghost use Rattle.layout.specs.Records.{cells2, fieldsAt};
 ghost use Rattle.rules.specs.Sound.{sound};
 ghost use Rattle.sound.specs.Checks.{rangeIn, headerIn, markIn, marksIn, putIn, entriesIn, heldIn, retainedIn, lagIn, originsIn, bodyIn};
@@ -48,25 +48,26 @@ fn mark(w: u64) -> usize
 
 // How many of the two words of an entry's vector are not 0.
 fn marks(e: &[u8]) -> usize
-    requires { ⌜ length (now e) ≡ 24 ⌝ }
+    requires { ⌜ length (now e) ≡ fields .width ⌝ }
     ensures { λ r. ⌜ (r ≡ marksIn (now (e .entry))) × (r ≤ 2) ⌝ }
 {
-    mark(layout::read_word(&e[8..16])) + mark(layout::read_word(&e[16..24]))
+    mark(layout::read_word(&e[Table::RECORD_VECTOR..Table::RECORD_MIDDLE]))
+        + mark(layout::read_word(&e[Table::RECORD_MIDDLE..Table::RECORD]))
 }
 
 // An origin below n, and a clock that the site has applied of it. The place is worked out anew: otherwise the compiler
 // takes the clock out of the word that the caller has read, and a full table costs a quarter more.
 fn written(t: &[u8], s: usize, x: usize, row: &[u16; 8], n: usize) -> bool
-    requires { ⌜ (length (now t) ≡ 15620) × (s < 8) × (x < 64) × (n ≤ 8) ⌝ }
+    requires { ⌜ (length (now t) ≡ table .width) × (s < 8) × (x < 64) × (n ≤ 8) ⌝ }
     ensures { λ r. ⌜ r ≡ putIn n (cells (now (row .entry))) (stateOf (now (t .entry)) .store s x) ⌝ }
 {
     let at = Table::STORE + (s * Table::KEYS + x) * Table::RECORD;
     let e = &t[at..at + Table::RECORD];
-    let clock = layout::read_clock(&e[6..8]);
+    let clock = layout::read_clock(&e[Table::RECORD_CLOCK..Table::RECORD_VECTOR]);
     if clock == 0 {
         return false;
     }
-    let origin = layout::wide_byte(e[4]);
+    let origin = layout::wide_byte(e[Table::RECORD_TAG]);
     if n <= origin {
         return false;
     }
@@ -76,7 +77,7 @@ fn written(t: &[u8], s: usize, x: usize, row: &[u16; 8], n: usize) -> bool
 // Eight bytes tell a written entry from a blank one. The vectors of a site's blank entries are judged together, behind
 // its last key, so that an entry takes one branch that is hard to foretell.
 fn entries_sound(t: &[u8], a: &[[u16; 8]; 8], n: usize, k: usize) -> bool
-    requires { ⌜ (length (now t) ≡ 15620) × (n ≤ 8) × (k ≤ 64) ⌝ }
+    requires { ⌜ (length (now t) ≡ table .width) × (n ≤ 8) × (k ≤ 64) ⌝ }
     ensures { λ r. ⌜ r ≡ entriesIn (stateOf (now (t .entry))) (cells2 (now (a .entry))) n k ⌝ }
 {
     let mut ok = true;
@@ -88,7 +89,7 @@ fn entries_sound(t: &[u8], a: &[[u16; 8]; 8], n: usize, k: usize) -> bool
         while x < k {
             let at = Table::STORE + s * Table::SHELF + x * Table::RECORD;
             let e = &t[at..at + Table::RECORD];
-            if layout::read_word(&e[0..8]) == 0 {
+            if layout::read_word(&e[0..Table::RECORD_VECTOR]) == 0 {
                 stray += marks(e);
             } else {
                 if !written(t, s, x, row, n) {
@@ -115,18 +116,18 @@ fn lesser(a: usize, b: usize) -> usize
 
 // The place of c holds clock c and a key below k.
 fn held(u: &[u8], k: usize, c: usize) -> bool
-    requires { ⌜ length (now u) ≡ 24 ⌝ }
+    requires { ⌜ length (now u) ≡ fields .width ⌝ }
     ensures { λ r. ⌜ r ≡ heldIn k c (toUpdate (fieldsAt (now (u .entry)))) ⌝ }
 {
-    if layout::wide(layout::read_clock(&u[6..8])) != c {
+    if layout::wide(layout::read_clock(&u[Table::RECORD_CLOCK..Table::RECORD_VECTOR])) != c {
         return false;
     }
-    layout::wide_byte(u[4]) < k
+    layout::wide_byte(u[Table::RECORD_TAG]) < k
 }
 
 // Each clock above the smallest, up to the origin's own count.
 fn retained(t: &[u8], k: usize, o: usize, low: usize, top: usize) -> bool
-    requires { ⌜ (length (now t) ≡ 15620) × (o < 8) × (low ≤ top) × (top < 65536) ⌝ }
+    requires { ⌜ (length (now t) ≡ table .width) × (o < 8) × (low ≤ top) × (top ≤ lastClock) ⌝ }
     ensures { λ r. ⌜ r ≡ retainedIn (stateOf (now (t .entry))) k o low top ⌝ }
 {
     let mut i = 0;
@@ -142,7 +143,7 @@ fn retained(t: &[u8], k: usize, o: usize, low: usize, top: usize) -> bool
 
 // The smallest count is at most 16 fewer than the origin's own, and each clock between is held.
 fn lag_sound(t: &[u8], k: usize, o: usize, low: usize, top: usize) -> bool
-    requires { ⌜ (length (now t) ≡ 15620) × (o < 8) × (low ≤ top) × (top < 65536) ⌝ }
+    requires { ⌜ (length (now t) ≡ table .width) × (o < 8) × (low ≤ top) × (top ≤ lastClock) ⌝ }
     ensures { λ r. ⌜ r ≡ lagIn (stateOf (now (t .entry))) k o low top ⌝ }
 {
     if low + Table::PLACES < top {
@@ -153,7 +154,7 @@ fn lag_sound(t: &[u8], k: usize, o: usize, low: usize, top: usize) -> bool
 
 // No site has applied more of o's puts than o, nor more than 16 fewer; o's updates that some site lacks are held.
 fn origins_sound(t: &[u8], a: &[[u16; 8]; 8], n: usize, k: usize) -> bool
-    requires { ⌜ (length (now t) ≡ 15620) × (n ≤ 8) ⌝ }
+    requires { ⌜ (length (now t) ≡ table .width) × (n ≤ 8) ⌝ }
     ensures { λ r. ⌜ r ≡ originsIn (stateOf (now (t .entry))) (cells2 (now (a .entry))) n k ⌝ }
 {
     let mut ok = true;
@@ -181,7 +182,7 @@ fn origins_sound(t: &[u8], a: &[[u16; 8]; 8], n: usize, k: usize) -> bool
 }
 
 fn body_sound(t: &[u8], n: usize, k: usize) -> bool
-    requires { ⌜ (length (now t) ≡ 15620) × (n ≤ 8) × (k ≤ 64) ⌝ }
+    requires { ⌜ (length (now t) ≡ table .width) × (n ≤ 8) × (k ≤ 64) ⌝ }
     ensures { λ r. ⌜ r ≡ bodyIn (stateOf (now (t .entry))) (stateOf (now (t .entry)) .applied) n k ⌝ }
 {
     let a = layout::applied(t, 0, n);
@@ -192,7 +193,7 @@ fn body_sound(t: &[u8], n: usize, k: usize) -> bool
 }
 
 pub fn sound(t: &[u8]) -> bool
-    requires { ⌜ length (now t) ≡ 15620 ⌝ }
+    requires { ⌜ length (now t) ≡ table .width ⌝ }
     ensures { λ r. ⌜ r ≡ sound (stateOf (now (t .entry))) ⌝ }
 {
     let h = layout::read_header(t);

@@ -7,20 +7,20 @@ use Prim.Native.Nat.{ℕ}
 use native.Mathlib.Omega.{arith}
 use lib.Dec.{eqb}
 use Rattle.clock.specs.Map.{if_then_else_}
-use Rattle.rules.proofs.Given.{Ascends, past, end}
+use Rattle.laws.proofs.Given.{Ascends, past, end}
 use Rattle.clock.proofs.Says.{says-eq, denies-not, denies-or, denies-le, denies-eq}
 use lib.ListN.{length}
 use borrow.Author.Tests.{eqb-true}
 use types.Run.{OneOf}
 use denote.Enum.Declared.{tagOf}
 use Rattle.table.proofs.Refusal.{the-type}
-use Rattle.layout.specs.State.{State, stateOf}
+use Rattle.layout.specs.State.{State, stateOf, table}
 use Rattle.rules.specs.Sound.{sound, Sound}
-use Rattle.rules.proofs.Tested.{sound-tested}
+use Rattle.laws.proofs.Tested.{sound-tested}
 use Rattle.rules.specs.Refusals.{Refusals, first}
 use Rattle.rules.specs.Calls.{Put, Get, refusals, asks}
-use Rattle.rules.proofs.Ready.{GetReady, get-ready, PutReady, put-ready}
-use Rattle.rules.proofs.Serving.{asks-clear}
+use Rattle.laws.proofs.Ready.{GetReady, get-ready, PutReady, put-ready}
+use Rattle.laws.proofs.Serving.{asks-clear}
 use Rattle.table.specs.declared.Refusal.{Refusal}
 use Rattle.table.specs.declared.Refusal.the-variants.{Nothing, Size, Unsound, Counts, Site, Same, Key, Spent, Full, NoNext}
 use Rattle.table.specs.Answers.{codeOf}
@@ -62,21 +62,21 @@ refusing Full h = omega arith
 refusing NoNext h = omega arith
 
 -- neither 1 nor 2: the buffer holds a sound table
-pub table-clear : (t : List ℕ) → first (tableIn t) ≡ 0 → (length t ≡ 15620) × Sound (stateOf t)
-table-clear t = go (eqb (length t) 15620) (sound (stateOf t)) refl refl
+pub table-clear : (t : List ℕ) → first (tableIn t) ≡ 0 → (length t ≡ table .width) × Sound (stateOf t)
+table-clear t = go (eqb (length t) (table .width)) (sound (stateOf t)) refl refl
   where
-    go : (a b : Bool) → eqb (length t) 15620 ≡ a → sound (stateOf t) ≡ b → first ((1, not a) ∷ (2, not b) ∷ []) ≡ 0 → (length t ≡ 15620) × Sound (stateOf t)
-    go true true e f z = (eqb-true (length t) 15620 e, sound-tested (stateOf t) .0 f)
+    go : (a b : Bool) → eqb (length t) (table .width) ≡ a → sound (stateOf t) ≡ b → first ((1, not a) ∷ (2, not b) ∷ []) ≡ 0 → (length t ≡ table .width) × Sound (stateOf t)
+    go true true e f z = (eqb-true (length t) (table .width) e, sound-tested (stateOf t) .0 f)
     go true false e f z = absurd (omega arith)
     go false b e f z = absurd (omega arith)
 
 -- no condition holds: the buffer's size, and what the step may rely on
 module _ (t : List ℕ) (s x : ℕ) where
-  pub get-clear : first (asks t (Get s x)) ≡ 0 → (length t ≡ 15620) × GetReady (stateOf t) s x
+  pub get-clear : first (asks t (Get s x)) ≡ 0 → (length t ≡ table .width) × GetReady (stateOf t) s x
   unfolding refusals
   get-clear h = let r = asks-clear t (Get s x) h in (r .0, get-ready (stateOf t) s x .0 (r .1))
 
-  pub put-clear : (v : ℕ) → first (asks t (Put s x v)) ≡ 0 → (length t ≡ 15620) × PutReady (stateOf t) s x
+  pub put-clear : (v : ℕ) → first (asks t (Put s x v)) ≡ 0 → (length t ≡ table .width) × PutReady (stateOf t) s x
   unfolding refusals
   put-clear v h = let r = asks-clear t (Put s x v) h in (r .0, put-ready (stateOf t) s x .0 (r .1))
 
@@ -84,7 +84,7 @@ pub deliver-clear : (t : List ℕ) (s o : ℕ) → first (deliverIn t s o) ≡ 0
 deliver-clear t s o h =
     let S : State = stateOf t in
     let r =
-    past 1 (omega arith) (denies-not (says-eq (length t) 15620))
+    past 1 (omega arith) (denies-not (says-eq (length t) (table .width)))
     (past 2 (omega arith) (denies-not (sound-tested S))
     (past 4 (omega arith) (denies-or (denies-le (S .n) s) (denies-le (S .n) o)) (past 5 (omega arith) (denies-eq s o) end))) .exactly .0 h in
     record { size = r .0; sound = r .1 .0; site = r .1 .1 .0 .0; origin = r .1 .1 .0 .1; others = r .1 .1 .1 .0 }

@@ -4,13 +4,13 @@ use mathlib.Core.List.{List}
 use mathlib.Core.Logic.{_≢_}
 use Prim.Native.Nat.{ℕ}
 use lib.ListN.{length}
-use Rattle.layout.specs.State.{State, stateOf}
+use Rattle.layout.specs.State.{State, stateOf, table}
 use Rattle.layout.specs.Ranges.{Bytes}
 use Rattle.rules.specs.Steps.{Numbers, Outcome, refused}
 use Rattle.rules.specs.Refusals.{first}
 use Rattle.rules.specs.Calls.{Call, Open, Put, Get, Deliver, Drain, refusals, beside, step, run, asks, serve}
-use Rattle.rules.proofs.Given.{unless-none}
-use Rattle.rules.proofs.Serving.{serve-runs, serve-refused, asks-clear}
+use Rattle.laws.proofs.Given.{unless-none}
+use Rattle.laws.proofs.Serving.{serve-runs, serve-refused, asks-clear}
 use Rattle.table.specs.declared.Refusal.{Refusal}
 use Rattle.table.specs.declared.Refusal.the-variants.{Nothing, Size, Unsound, Counts, Site, Same, Key, Spent, Full, NoNext}
 use Rattle.table.specs.declared.Answer.the-variants.{Refused}
@@ -43,7 +43,7 @@ module _ (t : List ℕ) (c : Call) where
       ∙ (λ i. record { answer = besides (stateOf t) c r i; bytes = t }))
 
   module _ (r : Numbers) (t′ : List ℕ) (same : length t′ ≡ length t) (b : Bytes t′) where
-    pub serves-run : length t ≡ 15620 → r ≡ run (stateOf t) c .answer → stateOf t′ ≡ run (stateOf t) c .after → record { answer = r; bytes = t′ } ≡ serve t c
+    pub serves-run : length t ≡ table .width → r ≡ run (stateOf t) c .answer → stateOf t′ ≡ run (stateOf t) c .after → record { answer = r; bytes = t′ } ≡ serve t c
     serves-run h e f = sym (serve-runs t c t′ h (same ∙ h) b f ∙ (λ i. record { answer = sym e i; bytes = t′ }))
 
     pub serves-step : first (asks t c) ≡ 0 → r ≡ step (stateOf t) c .answer → stateOf t′ ≡ step (stateOf t) c .after → record { answer = r; bytes = t′ } ≡ serve t c

@@ -10,7 +10,7 @@ use Rattle.clock.specs.Map.{any}
 use Rattle.clock.specs.Vector.{Vector}
 use Rattle.clock.specs.declared.Compared.{Compared}
 use Rattle.clock.specs.Clock.{columns, compare}
-use Rattle.layout.specs.State.{State, Update, stateOf}
+use Rattle.layout.specs.State.{State, Update, stateOf, lastClock}
 use Rattle.layout.specs.Ranges.{Bytes}
 use Rattle.layout.specs.declared.Record.{Record}
 use Rattle.layout.specs.Records.{updateOf}
@@ -19,8 +19,8 @@ use Rattle.rules.specs.Sound.{Sound, Retained}
 use Rattle.rules.specs.Steps.{refused, next, waiting, deliver}
 use Rattle.rules.specs.Refusals.{missing, cause, deliver-refusals, undelivered}
 use Rattle.rules.specs.Drain.{try}
-use Rattle.rules.proofs.Given.{unless-none, unless-first}
-use Rattle.rules.proofs.Ready.{deliver-asks}
+use Rattle.laws.proofs.Given.{unless-none, unless-first}
+use Rattle.laws.proofs.Ready.{deliver-asks}
 use Rattle.table.specs.Asked.{Attempts, DeliverFits}
 
 module _ (S : State) (s o : ℕ) (D : Sound S) (hs : s < S .n) (ho : o < S .n) (hd : s ≢ o) where
@@ -57,7 +57,7 @@ module _ (t : List ℕ) (s o : ℕ) (h : Attempts t s o) (behind : stateOf t .ap
       let r : Retained S o (next S s o) = record { made = omega arith; by = s; site = h .site; lacks = omega arith } in
       omega (arith, h .sound .kept o (next S s o) (h .origin) r .1, h .sound .keys)
 
-  pub spare : Bytes t → S .applied s o ≢ 65535
+  pub spare : Bytes t → S .applied s o ≢ lastClock
   spare b =
       let l : o < 8 = omega (arith, h .origin, h .sound .sites) in
       omega (arith, h .sound .most s o (h .site) (h .origin), state-fits t (h .size) b .1 .1 .1 .1 .0 .0 o l .0 o l)

@@ -1,8 +1,9 @@
 -- The document's numbers for each case of an answer, and the promise of a call. Assumes nothing.
+use mathlib.Core.Path.{_≡_}
 use mathlib.Core.List.{List}
 use Prim.Native.Nat.{ℕ}
 use Rattle.rules.specs.Steps.{Numbers, refused, done}
-use Rattle.rules.specs.Calls.{Served}
+use Rattle.rules.specs.Calls.{Call, Served, serve}
 use Rattle.table.specs.declared.Refusal.{Refusal}
 use Rattle.table.specs.declared.Refusal.the-variants.{Nothing, Size, Unsound, Counts, Site, Same, Key, Spent, Full, NoNext}
 use Rattle.table.specs.declared.Answer.{Answer}
@@ -30,3 +31,7 @@ numbersOf (Refused r) = refused (codeOf r)
 -- what a call that answered r has served, with the bytes t at its exit
 abbrev pub served : Answer → List ℕ → Served
 served r t = record { answer = numbersOf r; bytes = t }
+
+-- the promise of every call: on the bytes t it answers and leaves what `serve` says
+abbrev pub Promise : List ℕ → Call → Served → Type 0
+Promise t c w = w ≡ serve t c

@@ -8,7 +8,7 @@ use lib.Dec.{eqb, leb}
 use lib.ListN.{length}
 use Rattle.clock.specs.Map.{any}
 use Rattle.clock.specs.Vector.{Vector}
-use Rattle.layout.specs.State.{stateOf}
+use Rattle.layout.specs.State.{stateOf, lastClock, table}
 use Rattle.layout.specs.declared.Record.{Record}
 use Rattle.layout.specs.Records.{updateOf}
 use Rattle.rules.specs.Sound.{sound, Sound}
@@ -16,7 +16,7 @@ use Rattle.rules.specs.Steps.{waiting, next}
 use Rattle.rules.specs.Refusals.{Refusals}
 
 abbrev pub tableIn : List ℕ → Refusals
-tableIn t = (1, not (eqb (length t) 15620)) ∷ (2, not (sound (stateOf t))) ∷ []
+tableIn t = (1, not (eqb (length t) (table .width))) ∷ (2, not (sound (stateOf t))) ∷ []
 
 abbrev pub namesIn : (n k s x : ℕ) → Refusals
 namesIn n k s x = (4, leb n s) ∷ (6, leb k x) ∷ []
@@ -28,28 +28,28 @@ abbrev pub fullIn : (ℕ → Vector) → (n s : ℕ) → Bool
 fullIn a n s = any n (λ t. eqb (a t s + 16) (a s s))
 
 abbrev pub roomIn : (ℕ → Vector) → (n s : ℕ) → Refusals
-roomIn a n s = (7, eqb (a s s) 65535) ∷ (8, fullIn a n s) ∷ []
+roomIn a n s = (7, eqb (a s s) lastClock) ∷ (8, fullIn a n s) ∷ []
 
 abbrev pub deliverIn : List ℕ → (s o : ℕ) → Refusals
-deliverIn t s o = (1, not (eqb (length t) 15620)) ∷ (2, not (sound (stateOf t))) ∷ sitesIn (stateOf t .n) s o
+deliverIn t s o = (1, not (eqb (length t) (table .width))) ∷ (2, not (sound (stateOf t))) ∷ sitesIn (stateOf t .n) s o
 
 -- ## What the steps rely on
 
 pub record PutFits (t : List ℕ) (s x : ℕ) : Type 0 where
-  pub size : length t ≡ 15620
+  pub size : length t ≡ table .width
   pub site : s < 8
   pub key : x < 64
-  pub clock : stateOf t .applied s s ≢ 65535
+  pub clock : stateOf t .applied s s ≢ lastClock
 
 pub record GetFits (t : List ℕ) (s x : ℕ) : Type 0 where
-  pub size : length t ≡ 15620
+  pub size : length t ≡ table .width
   pub site : s < 8
   pub key : x < 64
   pub origin : stateOf t .store s x .clock ≢ 0 → stateOf t .store s x .origin < 8
 
 -- a sound table, and two of its sites
 pub record Attempts (t : List ℕ) (s o : ℕ) : Type 0 where
-  pub size : length t ≡ 15620
+  pub size : length t ≡ table .width
   pub sound : Sound (stateOf t)
   pub site : s < stateOf t .n
   pub origin : o < stateOf t .n
@@ -57,7 +57,7 @@ pub record Attempts (t : List ℕ) (s o : ℕ) : Type 0 where
 
 -- the update u is the next of o for s, and c its clock
 pub record DeliverFits (t : List ℕ) (s o : ℕ) (u : Record) (c : ℕ) : Type 0 where
-  pub size : length t ≡ 15620
+  pub size : length t ≡ table .width
   pub site : s < 8
   pub origin : o < 8
   pub key : u .tag < 64

@@ -1,12 +1,9 @@
--- No second outcome: two outcomes that satisfy a call's promise are equal, and one exists. Assumes nothing.
+-- No second outcome: two outcomes that satisfy the promise in a call's `ensures` are equal, and one exists. Assumes nothing.
 use mathlib.Core.Path.{_≡_, refl, sym, _∙_}
 use mathlib.Core.List.{List}
 use Prim.Native.Nat.{ℕ}
 use Rattle.rules.specs.Calls.{Call, Open, Put, Get, Deliver, Drain, Served, serve}
-
--- what a call on the bytes t may answer and leave
-abbrev pub Promise : List ℕ → Call → Served → Type 0
-Promise t c w = w ≡ serve t c
+use Rattle.table.specs.Answers.{Promise}
 
 abbrev pub NoSecond : Call → Type 0
 NoSecond c = (t : List ℕ) (w w′ : Served) → Promise t c w → Promise t c w′ → w ≡ w′

@@ -2,13 +2,13 @@
 ghost use mathlib.Core.Path.{_≡_};
 ghost use Prim.Native.Nat.{_+_, _≤_, _<_};
 ghost use lib.ListN.{length};
-ghost use Rattle.layout.specs.State.{stateOf};
+ghost use Rattle.layout.specs.State.{stateOf, lastClock, table};
 ghost use Rattle.layout.specs.Records.{entryOf};
 ghost use Rattle.rules.specs.Steps.{next, put, learn, deliver};
 ghost use Rattle.rules.specs.Refusals.{first};
 ghost use Rattle.rules.specs.Drain.{try};
-ghost use Rattle.rules.specs.Calls.{Open, Put, Get, Deliver, asks, serve};
-ghost use Rattle.table.specs.Answers.{codeOf, numbersOf, served};
+ghost use Rattle.rules.specs.Calls.{Open, Put, Get, Deliver, asks};
+ghost use Rattle.table.specs.Answers.{codeOf, numbersOf, served, Promise};
 ghost use Rattle.table.specs.Asked.{tableIn, namesIn, sitesIn, fullIn, roomIn, deliverIn, PutFits, GetFits, DeliverFits, Attempts};
 use clock::Clock;
 use clock::Compared;
@@ -108,7 +108,7 @@ pub fn table_refusal(t: &[u8]) -> Refusal
 
 // Some site has applied 16 fewer of s's puts than s.
 fn full(t: &[u8], n: usize, s: usize) -> bool
-    requires { ⌜ (length (now t) ≡ 15620) × (n ≤ 8) × (s < 8) ⌝ }
+    requires { ⌜ (length (now t) ≡ table .width) × (n ≤ 8) × (s < 8) ⌝ }
     ensures { λ r. ⌜ r ≡ fullIn (stateOf (now (t .entry)) .applied) n s ⌝ }
 {
     let top = layout::wide(layout::applied_at(t, s, s));
@@ -153,7 +153,7 @@ fn sites_refusal(n: usize, s: usize, o: usize) -> Refusal
 
 // 7 and 8: room for one more put of s.
 fn room_refusal(t: &[u8], n: usize, s: usize) -> Refusal
-    requires { ⌜ (length (now t) ≡ 15620) × (n ≤ 8) × (s < 8) ⌝ }
+    requires { ⌜ (length (now t) ≡ table .width) × (n ≤ 8) × (s < 8) ⌝ }
     ensures { λ r. ⌜ codeOf r ≡ first (roomIn (stateOf (now (t .entry)) .applied) n s) ⌝ }
 {
     if layout::applied_at(t, s, s) == Table::LAST_CLOCK {
@@ -193,7 +193,7 @@ fn put_refusal(t: &[u8], s: usize, x: usize) -> Refusal
 
 // One more than a clock that is not the last.
 fn after(c: u16) -> u16
-    requires { ⌜ (c ≡ 65535 → ⊥) ⌝ }
+    requires { ⌜ (c ≡ lastClock → ⊥) ⌝ }
     ensures { λ r. ⌜ r ≡ c + 1 ⌝ }
 {
     c + 1
@@ -239,7 +239,7 @@ fn put_step(t: &mut [u8], s: usize, x: usize, v: u32) -> u16
 }
 
 pub fn put(t: &mut [u8], s: usize, x: usize, v: u32) -> Answer
-    ensures { λ r. ⌜ served r (now (t .exit)) ≡ serve (now (t .entry)) (Put s x v) ⌝ }
+    ensures { λ r. ⌜ Promise (now (t .entry)) (Put s x v) (served r (now (t .exit))) ⌝ }
 {
     let why = put_refusal(t, s, x);
     match why {
@@ -275,7 +275,7 @@ fn get_step(t: &mut [u8], s: usize, x: usize) -> Record
 }
 
 pub fn get(t: &mut [u8], s: usize, x: usize) -> Answer
-    ensures { λ r. ⌜ served r (now (t .exit)) ≡ serve (now (t .entry)) (Get s x) ⌝ }
+    ensures { λ r. ⌜ Promise (now (t .entry)) (Get s x) (served r (now (t .exit))) ⌝ }
 {
     let why = get_refusal(t, s, x);
     match why {
@@ -355,7 +355,7 @@ fn deliver_refusal(t: &[u8], s: usize, o: usize) -> Refusal
 }
 
 pub fn deliver(t: &mut [u8], s: usize, o: usize) -> Answer
-    ensures { λ r. ⌜ served r (now (t .exit)) ≡ serve (now (t .entry)) (Deliver s o) ⌝ }
+    ensures { λ r. ⌜ Promise (now (t .entry)) (Deliver s o) (served r (now (t .exit))) ⌝ }
 {
     let why = deliver_refusal(t, s, o);
     match why {
@@ -365,7 +365,7 @@ pub fn deliver(t: &mut [u8], s: usize, o: usize) -> Answer
 }
 
 pub fn open(t: &mut [u8], n: usize, k: usize) -> Answer
-    ensures { λ r. ⌜ served r (now (t .exit)) ≡ serve (now (t .entry)) (Open n k) ⌝ }
+    ensures { λ r. ⌜ Promise (now (t .entry)) (Open n k) (served r (now (t .exit))) ⌝ }
 {
     if t.len() != Table::BYTES {
         return Answer::Refused(Refusal::Size);

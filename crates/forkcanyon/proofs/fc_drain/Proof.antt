@@ -1,6 +1,7 @@
 use mathlib.Core.Path.{ap, _∙_}
 use Prim.Native.Nat.{ℕ, min}
 use Rattle.rules.specs.Calls.{Drain, serve}
+use Rattle.forkcanyon.specs.Host.{mostTries}
 use Rattle.forkcanyon.proofs.Hosts.{hosts-nothing, hosts-call}
 use borrow.Author.Needs.{needs}
 use Rattle.forkcanyon.proofs.fc_drain.Statement.{statement}
@@ -9,7 +10,7 @@ use Rattle.forkcanyon.proofs.fc_drain.Tie as tie
 returns : tie.Need-returns
 returns c =
     let a = c .before .before .before .args in
-    hosts-nothing (a .table .now) (a .reply .now) (Drain (a .site) (min (a .budget) 65535)) (c .if1 .taken)
+    hosts-nothing (a .table .now) (a .reply .now) (Drain (a .site) (min (a .budget) mostTries)) (c .if1 .taken)
 
 returns-2 : tie.Need-returns-2
 returns-2 c =
@@ -17,7 +18,7 @@ returns-2 c =
     let w = r .before .before .before .before .before in
     let tested = w .before .before .before in
     let a = tested .before .before .before .args in
-    hosts-call (a .table .now) (a .reply .now) (Drain (a .site) (min (a .budget) 65535)) (w .drain .result) (r .before .numbers-of .result) (tested .if1 .left)
+    hosts-call (a .table .now) (a .reply .now) (Drain (a .site) (min (a .budget) mostTries)) (w .drain .result) (r .before .numbers-of .result) (tested .if1 .left)
     (w .drain .ensures ∙ ap (λ (b : ℕ). serve (a .table .now) (Drain (a .site) b)) (w .before .tries-allowed .ensures)) (r .before .numbers-of .ensures) (r .answer .ensures)
 
 pub fc-drain-spec : {M : Type 1} → statement M

@@ -4,16 +4,17 @@ use native.Mathlib.Omega.{arith}
 use lib.ListN.{length, getD}
 use lib.Seq.{getD-set-same, getD-set-other}
 use borrow.Author.Count.{below-more}
+use Rattle.layout.specs.Records.{block}
 use Rattle.layout.proofs.Zeros.{zeros-long}
 use borrow.Author.Needs.{needs}
 use Rattle.layout.proofs.clear_block.Statement.{statement}
 use Rattle.layout.proofs.clear_block.Tie as tie
 
 abbrev Inv-loop : tie.InvT-loop
-Inv-loop s₀ i₀ s i = (i ≤ 132) × (length s ≡ 132) × ((j : ℕ) → j < i → getD s j 0 ≡ 0)
+Inv-loop s₀ i₀ s i = (i ≤ block) × (length s ≡ block) × ((j : ℕ) → j < i → getD s j 0 ≡ 0)
 
 abbrev μ-loop : tie.MeasureT-loop
-μ-loop s₀ i₀ s i = 132 - i
+μ-loop s₀ i₀ s i = block - i
 
 loop-holds : tie.Need-loop-holds Inv-loop μ-loop
 loop-holds c = (search needs, search needs, λ j h. absurd (omega arith))

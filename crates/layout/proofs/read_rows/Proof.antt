@@ -16,7 +16,7 @@ use Rattle.layout.proofs.read_rows.Statement.{statement}
 use Rattle.layout.proofs.read_rows.Tie as tie
 
 abbrev Inv-loop : tie.InvT-loop
-Inv-loop s from to a₀ i₀ a i = (from ≤ i) × (i ≤ to) × (to ≤ 8) × (length s ≡ 128) × (length a ≡ 8) × (cells2 a ≡ rows from i (square .dec s))
+Inv-loop s from to a₀ i₀ a i = (from ≤ i) × (i ≤ to) × (to ≤ 8) × (length s ≡ square .width) × (length a ≡ 8) × (cells2 a ≡ rows from i (square .dec s))
 
 abbrev μ-loop : tie.MeasureT-loop
 μ-loop s from to a₀ i₀ a i = to - i

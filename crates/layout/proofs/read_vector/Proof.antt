@@ -13,7 +13,7 @@ use Rattle.layout.proofs.read_vector.Statement.{statement}
 use Rattle.layout.proofs.read_vector.Tie as tie
 
 abbrev Inv-loop : tie.InvT-loop
-Inv-loop s a₀ i₀ a i = (i ≤ 8) × (length s ≡ 16) × (length a ≡ 8) × (cells a ≡ upTo i (vector .dec s) zeros)
+Inv-loop s a₀ i₀ a i = (i ≤ 8) × (length s ≡ vector .width) × (length a ≡ 8) × (cells a ≡ upTo i (vector .dec s) zeros)
 
 abbrev μ-loop : tie.MeasureT-loop
 μ-loop s a₀ i₀ a i = 8 - i

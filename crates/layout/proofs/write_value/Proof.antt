@@ -2,7 +2,7 @@ use mathlib.Core.Path.{ap, _∙_}
 use mathlib.Core.List.{[], _∷_}
 use Prim.Native.Nat.{_/_, _%_}
 use native.Mathlib.Omega.{arith}
-use Rattle.layout.specs.Codec.{number}
+use Rattle.layout.specs.State.{value}
 use Rattle.layout.proofs.Splice.{stored}
 use borrow.Author.Needs.{needs}
 use Rattle.layout.proofs.write_value.Statement.{statement}
@@ -11,7 +11,7 @@ use Rattle.layout.proofs.write_value.Tie as tie
 returns : tie.Need-returns
 returns c =
     let v = c .args .v in
-    ap (number 4 .dec) (stored (v / 16777216 ∷ v / 65536 % 256 ∷ v / 256 % 256 ∷ v % 256 ∷ []) (c .args .s .now) (omega arith)) ∙ omega arith
+    ap (value .dec) (stored (v / 16777216 ∷ v / 65536 % 256 ∷ v / 256 % 256 ∷ v % 256 ∷ []) (c .args .s .now) (omega arith)) ∙ omega arith
 
 pub write-value-spec : {M : Type 1} → statement M
 write-value-spec =

@@ -12,7 +12,7 @@ use Rattle.layout.proofs.write_vector.Statement.{statement}
 use Rattle.layout.proofs.write_vector.Tie as tie
 
 abbrev Inv-loop : tie.InvT-loop
-Inv-loop s₀ a i₀ s i = (i ≤ 8) × (length s ≡ 16) × (vector .dec s ≡ upTo i (cells a) (vector .dec s₀))
+Inv-loop s₀ a i₀ s i = (i ≤ 8) × (length s ≡ vector .width) × (vector .dec s ≡ upTo i (cells a) (vector .dec s₀))
 
 abbrev μ-loop : tie.MeasureT-loop
 μ-loop s₀ a i₀ s i = 8 - i

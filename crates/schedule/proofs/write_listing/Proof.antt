@@ -7,7 +7,7 @@ use Rattle.rules.specs.Calls.{Open, run}
 use Rattle.schedule.specs.Text.{end-line, cut-line}
 use Rattle.schedule.specs.Written.{answered}
 use Rattle.schedule.proofs.Writing.{counts, written-then}
-use Rattle.rules.proofs.Outcomes.{outcome}
+use Rattle.laws.proofs.Outcomes.{outcome}
 use Rattle.schedule.proofs.Playing.{open-zeros}
 use Rattle.schedule.proofs.Going.{listing-cut, listing-refused, listing-opened}
 use borrow.Author.Needs.{needs}

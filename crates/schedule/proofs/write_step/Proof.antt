@@ -6,7 +6,7 @@ use mathlib.Core.Path.{_≡_, ap, subst, _∙_}
 use native.Mathlib.Omega.{arith}
 use Rattle.layout.specs.Ranges.{Bytes}
 use Rattle.schedule.specs.Step.{stepOf, played, played-on}
-use Rattle.rules.proofs.Outcomes.{outcome}
+use Rattle.laws.proofs.Outcomes.{outcome}
 use Rattle.schedule.proofs.Playing.{played-is}
 use borrow.Author.Needs.{needs}
 use Rattle.schedule.proofs.write_step.Statement.{statement}

@@ -7,10 +7,11 @@ use Rattle.schedule.proofs.Going.{Progress, start, onward, ended, full}
 use borrow.Author.Needs.{needs}
 use Rattle.schedule.proofs.write_steps.Statement.{statement}
 use Rattle.schedule.proofs.write_steps.Tie as tie
+use Rattle.layout.specs.State.{table}
 
 abbrev Inv-loop : tie.InvT-loop
 Inv-loop input t₀ out₀ at from₀ end₀ i₀ t out from end i =
-    (i ≤ 10922) × (from ≤ length input) × (length t ≡ 15620) × (length out ≡ length out₀) × (end ≤ at + 66 * i) × Progress input t₀ out₀ at t out from end i
+    (i ≤ 10922) × (from ≤ length input) × (length t ≡ table .width) × (length out ≡ length out₀) × (end ≤ at + 66 * i) × Progress input t₀ out₀ at t out from end i
 
 abbrev μ-loop : tie.MeasureT-loop
 μ-loop input t₀ out₀ at from₀ end₀ i₀ t out from end i = 10922 - i

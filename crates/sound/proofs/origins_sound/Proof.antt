@@ -6,7 +6,7 @@ use native.Mathlib.Numerals.{add-one}
 use lib.Dec.{leb}
 use borrow.Author.Tests.{not-true, not-false, le-leb, lt-leb}
 use Rattle.clock.specs.Map.{all}
-use Rattle.clock.proofs.Below.{and-both, all-none, all-more, all-done, all-fails}
+use Rattle.clock.proofs.Below.{all-none, all-more, all-done, all-fails}
 use Rattle.layout.specs.State.{stateOf}
 use Rattle.layout.specs.Records.{cells2}
 use Rattle.rules.specs.Sound.{smallest}
@@ -61,7 +61,7 @@ scan-again c =
     let a = scan .before .before .args in
     let l = sites .loop in
     let lag = lag-is (stateOf (a .t .now)) (cells2 (a .a .now)) (a .n) (a .k) (scan .scan .o) (l .s) (c .before .lag-sound .ensures) (l .inv .2) (l .inv .0) (done .loop-test .left) (sites .before .wide .ensures .0) in
-    (omega arith, l .inv .1, all-more _ _ (scan .scan .inv .2) (and-both _ _ (all-done _ _ _ (l .inv .0) (done .loop-test .left) (l .inv .4)) (sym lag ∙ not-false _ (c .if2 .left))))
+    (omega arith, l .inv .1, all-more _ _ (scan .scan .inv .2) (rw (all-done _ _ _ (l .inv .0) (done .loop-test .left) (l .inv .4)) (sym lag ∙ not-false _ (c .if2 .left))))
 
 returns : tie.Need-returns Inv-loop μ-loop Inv-scan μ-scan
 returns c =

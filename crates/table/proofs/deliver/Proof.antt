@@ -8,7 +8,7 @@ use Rattle.layout.specs.Ranges.{Bytes}
 use Rattle.rules.specs.Steps.{Outcome}
 use Rattle.rules.specs.Refusals.{missing, deliver-refusals}
 use Rattle.rules.specs.Calls.{Deliver, refusals, asks}
-use Rattle.rules.proofs.Draining.{try-runs}
+use Rattle.laws.proofs.Draining.{try-runs}
 use Rattle.table.specs.Answers.{codeOf}
 use Rattle.table.specs.Asked.{deliverIn}
 use Rattle.table.proofs.Codes.{first-stop, refusing, deliver-clear}

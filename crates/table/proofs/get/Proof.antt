@@ -4,7 +4,7 @@ use Rattle.layout.specs.Ranges.{Bytes}
 use Rattle.layout.specs.State.{stateOf}
 use Rattle.rules.specs.Steps.{done, get}
 use Rattle.rules.specs.Calls.{Get, step}
-use Rattle.rules.proofs.Keeps.{get-origin}
+use Rattle.laws.proofs.Keeps.{get-origin}
 use Rattle.table.specs.Answers.{codeOf}
 use Rattle.table.proofs.Codes.{refusing, get-clear}
 use Rattle.table.proofs.Serves.{serves-refused, serves-step}

@@ -3,7 +3,7 @@ use mathlib.Core.Path.{refl, sym, ap, _∙_}
 use native.Mathlib.Omega.{arith}
 use lib.ListN.{length}
 use borrow.Author.Tests.{eq-eqb, ne-eqb, not-true, not-false}
-use Rattle.layout.specs.State.{State, withCounts}
+use Rattle.layout.specs.State.{State, withCounts, table}
 use Rattle.layout.specs.Ranges.{Bytes}
 use Rattle.rules.specs.Steps.{opened}
 use Rattle.rules.specs.Refusals.{open-refusals}
@@ -19,7 +19,7 @@ unfolding Bytes asks refusals open-refusals
 returns c =
     let known = c .before in
     let a = known .before .args in
-    serves-refused (a .t .now) (Open (a .n) (a .k)) Size (λ i. omega (arith, known .slice-known .given i)) (rw (ne-eqb (length (a .t .now)) 15620 (c .if1 .taken))) (omega arith)
+    serves-refused (a .t .now) (Open (a .n) (a .k)) Size (λ i. omega (arith, known .slice-known .given i)) (rw (ne-eqb (length (a .t .now)) (table .width) (c .if1 .taken))) (omega arith)
 
 returns-2 : tie.Need-returns-2
 unfolding Bytes asks refusals open-refusals
@@ -27,7 +27,7 @@ returns-2 c =
     let known = c .before .before .before in
     let a = known .before .args in
     serves-refused (a .t .now) (Open (a .n) (a .k)) Counts (λ i. omega (arith, known .slice-known .given i))
-    (rw (eq-eqb (length (a .t .now)) 15620 (c .before .before .if1 .left), sym (c .before .in-range .ensures) ∙ not-true _ (c .if2 .taken))) (omega arith)
+    (rw (eq-eqb (length (a .t .now)) (table .width) (c .before .before .if1 .left), sym (c .before .in-range .ensures) ∙ not-true _ (c .if2 .taken))) (omega arith)
 
 returns-3 : tie.Need-returns-3
 unfolding Bytes asks refusals open-refusals step opened
@@ -37,7 +37,7 @@ returns-3 c =
     let r = c .before .before .before .before .before .before .before .before in
     let a = r .before .before .before .before .args in
     serves-step (a .t .now) (Open (a .n) (a .k)) _ (w .last .0) (w .kept .0 ∙ z .kept .0) (λ i. omega (arith, c .slice-known3 .given i))
-    (rw (eq-eqb (length (a .t .now)) 15620 (r .before .before .if1 .left), sym (r .before .in-range .ensures) ∙ not-false _ (r .if2 .left)))
+    (rw (eq-eqb (length (a .t .now)) (table .width) (r .before .before .if1 .left), sym (r .before .in-range .ensures) ∙ not-false _ (r .if2 .left)))
     refl (w .ensures ∙ ap (λ (S : State). withCounts S (a .n) (a .k)) (z .ensures))
 
 pub open-spec : {M : Type 1} → statement M

@@ -1,0 +1,144 @@
+-- A short run of figure 7 worked out step by step, and the smallest case of each definition. Assumes nothing.
+use mathlib.Core.Path.{_≡_, refl}
+use mathlib.Core.List.{[], _∷_}
+use mathlib.Core.Logic.{inl, inr}
+use Prim.Native.Nat.{ℕ}
+use native.Mathlib.Omega.{arith}
+use Rattle.clock.specs.Vector.{zeros, note}
+use Rattle.layout.specs.State.{State}
+use Rattle.rules.specs.Steps.{done, refused}
+use Rattle.rules.specs.Calls.{Open, Put, Get, Deliver}
+use Rattle.causal.specs.World.{∅, just, _∪_, never, wrote, World, nth, withPut, withGet, withUpdate, CausesApplied, put, get, update, PUT, GET, UPDATE, start, Run, begin, more}
+use Rattle.causal.specs.History.{History, Cause, direct, deeper, Write, Read, lookup, Reads, op, order}
+use Rattle.causal.specs.Refines.{Within, answer, numbers, after-call}
+use Rattle.causal.specs.Anomalies.{second-first, effect-alone, effect-first, far-effect-first}
+
+-- ## A run
+
+-- 1 puts, 2 applies it; 0 puts, 1 applies it; 1 gets it; 1 puts again; 2 applies 0's put
+abbrev handed : World
+handed = withUpdate (withPut start 1 3 5) 2 1
+
+abbrev sent : World
+sent = withPut handed 0 1 7
+
+abbrev applied : World
+applied = withUpdate sent 1 0
+
+abbrev got : World
+got = withGet applied 1 1
+
+abbrev sent-again : World
+sent-again = withPut got 1 2 9
+
+abbrev caught-up : World
+caught-up = withUpdate sent-again 2 0
+
+abbrev labels : History
+labels = update 2 0 1 1 7 ∷ put 1 2 9 2 ∷ get 1 1 (wrote 7 0 1) ∷ update 1 0 1 1 7 ∷ put 0 1 7 1 ∷ update 2 1 1 3 5 ∷ put 1 3 5 1 ∷ []
+
+-- a put sends what its site depended on before it; then the site depends on it too
+sends : nth (sent .updates 0) 1 .depends ≡ ∅
+sends = refl
+
+after-put : sent .depends 0 ≡ ∅ ∪ just 0 1
+after-put = refl
+
+-- an update moves store and count, and its receiver depends on nothing more
+stored : applied .store 1 1 .answer ∷ applied .store 1 3 .answer ∷ applied .store 2 1 .answer ∷ [] ≡ wrote 7 0 1 ∷ wrote 5 1 1 ∷ never ∷ []
+stored = refl
+
+counted : applied .applied 1 0 ∷ applied .applied 2 0 ∷ applied .applied 2 1 ∷ [] ≡ 1 ∷ 0 ∷ 1 ∷ []
+counted = refl
+
+after-update : applied .depends 1 ≡ ∅ ∪ just 1 1
+after-update = refl
+
+-- a get takes on the put that it answered with that put's set, and the next put sends all
+after-get : got .depends 1 ≡ ∅ ∪ just 1 1 ∪ (just 0 1 ∪ ∅)
+after-get = refl
+
+sends-all : nth (sent-again .updates 1) 2 .depends ≡ got .depends 1
+sends-all = refl
+
+-- 2 has a put of 1, and waits for that of 0; with it, nothing is missing
+waits : CausesApplied sent-again 2 1 → ⊥
+waits f = omega (arith, f 0 1 (inr (inl (refl, refl))))
+
+ready : CausesApplied caught-up 2 1
+ready o c (inl (inl k)) = absurd k
+ready o c (inl (inr k)) = rw (k .0, k .1) (omega arith)
+ready o c (inr (inl k)) = rw (k .0, k .1) (omega arith)
+ready o c (inr (inr k)) = absurd k
+
+run : Run 3 4 labels caught-up
+run =
+    more (more (more (more (more (more (more begin
+    (PUT 1 3 5 (omega arith) (omega arith)))
+    (UPDATE 2 1 (omega arith) (omega arith) (omega arith) (omega arith) (λ o c k. absurd k)))
+    (PUT 0 1 7 (omega arith) (omega arith)))
+    (UPDATE 1 0 (omega arith) (omega arith) (omega arith) (omega arith) (λ o c k. absurd k)))
+    (GET 1 1 (omega arith) (omega arith)))
+    (PUT 1 2 9 (omega arith) (omega arith)))
+    (UPDATE 2 0 (omega arith) (omega arith) (omega arith) (omega arith) (λ o c k. absurd k))
+
+-- ## Histories
+
+-- what a site called and what it was handed, as it came
+in-order : order 0 labels ∷ order 1 labels ∷ order 2 labels ∷ order 3 labels ∷ []
+    ≡ (Write 0 1 1 7 ∷ [])
+    ∷ (Write 1 2 2 9 ∷ Read 1 (wrote 7 0 1) ∷ Write 0 1 1 7 ∷ Write 1 1 3 5 ∷ [])
+    ∷ (Write 0 1 1 7 ∷ Write 1 1 3 5 ∷ [])
+    ∷ [] ∷ []
+unfolding order op
+in-order = refl
+
+-- a cause: an own earlier put, a put that a get answered, a cause of a cause
+pub own-put : Cause second-first 0 1 0 2
+own-put = direct (put 0 1 7 1) 0 2 9 2 0 1 (inr (inr (inl (refl, inl refl)))) (refl, refl, refl)
+
+pub by-get-alone : Cause effect-alone 0 1 1 1
+by-get-alone = direct (get 1 1 (wrote 7 0 1)) 1 2 9 1 0 1 (inr (inl (refl, inl refl))) (refl, refl, refl)
+
+pub by-get : Cause effect-first 0 1 1 1
+by-get = direct (get 1 1 (wrote 7 0 1)) 1 2 9 1 0 1 (inr (inr (inl (refl, inl refl)))) (refl, refl, refl)
+
+pub of-a-cause : Cause far-effect-first 0 1 2 1
+of-a-cause =
+    deeper
+    (direct (get 1 1 (wrote 7 0 1)) 1 2 9 1 0 1 (inr (inr (inr (inr (inr (inr (inl (refl, inl refl)))))))) (refl, refl, refl))
+    (direct (get 2 2 (wrote 9 1 1)) 2 3 4 1 1 1 (inr (inr (inl (refl, inl refl)))) (refl, refl, refl))
+
+-- a single ordinary table answers the newest write of the key, and nothing else
+newest : lookup 5 (Write 2 1 6 8 ∷ Write 1 1 5 9 ∷ Write 0 1 5 7 ∷ []) ∷ lookup 4 (Write 0 1 5 7 ∷ []) ∷ [] ≡ wrote 9 1 1 ∷ never ∷ []
+newest = refl
+
+pub unread : Reads (Read 5 never ∷ Write 0 1 5 7 ∷ []) → ⊥
+unread r =
+    let e : never ≡ wrote 7 0 1 = r .0 in
+    let z : _≡_ {A = ℕ} 0 1 = cc in
+    omega arith
+
+-- ## The table's numbers
+
+-- clock 0 is never written, and origin 0 a site as any other
+marks : answer 0 0 0 ∷ answer 7 0 1 ∷ answer 7 3 1 ∷ [] ≡ never ∷ wrote 7 0 1 ∷ wrote 7 3 1 ∷ []
+marks = refl
+
+-- a cause at the eighth site counts
+eighth : Within (note zeros 7 1) zeros → ⊥
+eighth f = omega (arith, f 7 (omega arith))
+
+-- what a label says, and the history after accepted and refused calls
+says : numbers (put 0 1 7 2) ∷ numbers (get 1 1 never) ∷ numbers (get 1 1 (wrote 7 0 2)) ∷ numbers (update 1 0 2 1 7) ∷ []
+    ≡ done 1 0 2 7 ∷ done 1 0 0 0 ∷ done 1 0 2 7 ∷ done 1 0 2 7 ∷ []
+says = refl
+
+module _ (S : State) (h : History) where
+  accepted : after-call S (Put 0 1 7) (done 1 0 2 7) h ∷ after-call S (Get 2 1) (done 1 0 2 7) h ∷ after-call S (Deliver 2 0) (done 1 0 2 7) h ∷ after-call S (Open 3 4) (refused 0) h ∷ []
+      ≡ (put 0 1 7 2 ∷ h) ∷ (get 2 1 (wrote 7 0 2) ∷ h) ∷ (update 2 0 2 1 7 ∷ h) ∷ [] ∷ []
+  accepted = refl
+
+  none : after-call S (Put 0 1 7) (refused 8) h ∷ after-call S (Get 2 9) (refused 6) h ∷ after-call S (Deliver 2 0) (refused 9) h ∷ after-call S (Open 9 4) (refused 3) h ∷ []
+      ≡ h ∷ h ∷ h ∷ h ∷ []
+  none = refl

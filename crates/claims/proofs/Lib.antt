@@ -1,0 +1,2 @@
+pub mod Proved
+pub mod Used

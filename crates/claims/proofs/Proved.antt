@@ -1,0 +1,107 @@
+-- Every claim holds: its proof by name. Assumes nothing.
+use mathlib.Core.Path.{_≡_, refl}
+use mathlib.Core.List.{[], _∷_, map}
+use lib.ListN.{length}
+use Rattle.layout.specs.State.{the-widths, the-offsets}
+use Rattle.layout.proofs.TableTrips.{bytes-back, state-back, state-fits, bytes-long}
+use Rattle.rules.specs.Cases.{Case, cases, starred}
+use Rattle.rules.specs.Bounds.{bounds, at-bounds}
+use Rattle.rules.specs.SoundCases.{fact-by-fact}
+use Rattle.laws.proofs.Tested.{sound-tested}
+use Rattle.laws.proofs.After.{accepted-sound, keeps-sound}
+use Rattle.laws.proofs.Given.{codes-listed}
+use Rattle.laws.proofs.Codes.{given-exactly, accepted-exactly, spent-exactly, refused-keeps, refused-zeros, missing-named}
+use Rattle.laws.proofs.Draining.{drain-delivers, drain-prefix, tries-within}
+use Rattle.laws.proofs.Turns.{drain-ends}
+use Rattle.laws.proofs.Tries.{drain-rises, tries-bounded, pending-bounded, budget-enough}
+use Rattle.causal.proofs.Progress.{run-causal}
+use Rattle.causal.proofs.Vectors.{same-answers}
+use Rattle.causal.proofs.Handed.{applied-exactly}
+use Rattle.causal.proofs.Counted.{puts-counted}
+use Rattle.causal.proofs.Anomaly.{anomalies}
+use Rattle.demands.proofs.Proved.{demand1, demand2, demand3}
+use Rattle.demands.proofs.Drained.{nothing-delivered}
+use Rattle.demands.proofs.Schedule.{history, causal}
+use Rattle.table.specs.NoSecond.{open-no-second, put-no-second, get-no-second, deliver-no-second, drain-no-second}
+use Rattle.forkcanyon.specs.NoSecond.{fc-open-no-second, fc-put-no-second, fc-get-no-second, fc-deliver-no-second, fc-drain-no-second}
+use Rattle.table.specs.Worked as worked
+use Rattle.forkcanyon.specs.Worked as replies
+use Rattle.forkcanyon.proofs.Sizes.{wrong-reply, wrong-table, size-exactly}
+use Rattle.schedule.specs.Theorems.{play-no-second, written-no-second}
+use Rattle.schedule.proofs.Rest.{rest-ignored, always-ends}
+use Rattle.claims.specs.Claims.{Claims}
+
+which : map (λ (c : Case). c .number) cases ≡ 1 ∷ 3 ∷ 4 ∷ 5 ∷ 6 ∷ 7 ∷ 9 ∷ 10 ∷ 11 ∷ 12 ∷ 13 ∷ 15 ∷ 15 ∷ 0 ∷ []
+unfolding cases
+which = refl
+
+how-many : length bounds ≡ 23
+unfolding bounds
+how-many = refl
+
+pub claims : Claims
+claims =
+    record {
+      demands = record { one = demand1; nothing-delivered = nothing-delivered; two = demand2; three = demand3 };
+      histories =
+          record {
+            every-run = run-causal;
+            same-answers = same-answers;
+            applied-exactly = applied-exactly;
+            puts-counted = puts-counted;
+            anomalies = anomalies;
+            schedule = λ t size. (history t size, causal t size);
+          };
+      outcomes =
+          record {
+            opens = open-no-second;
+            puts = put-no-second;
+            gets = get-no-second;
+            delivers = deliver-no-second;
+            drains = drain-no-second;
+            fc-open = fc-open-no-second;
+            fc-put = fc-put-no-second;
+            fc-get = fc-get-no-second;
+            fc-deliver = fc-deliver-no-second;
+            fc-drain = fc-drain-no-second;
+            plays = play-no-second;
+            written = written-no-second;
+          };
+      cases = record { starred = starred; at-bounds = at-bounds; which = which; how-many = how-many; fact-by-fact = fact-by-fact };
+      bytes =
+          record {
+            bytes-back = bytes-back;
+            state-back = state-back;
+            state-fits = state-fits;
+            bytes-long = bytes-long;
+            sizes = (the-widths, the-offsets);
+            worked-table = (worked.long, worked.header, worked.applied, worked.depends, worked.entry, worked.update);
+            worked-replies = (replies.reply, replies.put, replies.spent);
+            wrong-reply = wrong-reply;
+            wrong-table = wrong-table;
+            size-exactly = size-exactly;
+          };
+      soundness = record { tested = sound-tested; accepted = accepted-sound; kept = keeps-sound };
+      codes =
+          record {
+            listed = codes-listed;
+            given = given-exactly;
+            accepted = accepted-exactly;
+            spent = spent-exactly;
+            keeps = refused-keeps;
+            zeros = refused-zeros;
+            missing = missing-named;
+          };
+      drain =
+          record {
+            delivers = drain-delivers;
+            rises = drain-rises;
+            ends = drain-ends;
+            prefix = drain-prefix;
+            within = tries-within;
+            bounded = tries-bounded;
+            pending = pending-bounded;
+            enough = budget-enough;
+          };
+      listings = record { rest-ignored = rest-ignored; always-ends = always-ends };
+    }

@@ -1,0 +1,157 @@
+-- What Forkcanyon claims, on one page: each field is a sentence, and the statement that says it. The prover has filled
+-- every one (crates/claims/proofs/Proved), so that a theorem that goes missing is an error. Assumes nothing.
+use mathlib.Core.Path.{_≡_}
+use mathlib.Core.List.{List, [], _∷_, map}
+use Prim.Native.Nat.{ℕ, min}
+use lib.ListN.{length}
+use Rattle.clock.specs.Vector.{Vector}
+use Rattle.layout.specs.State.{table, stateOf, the-widths, the-offsets}
+use Rattle.layout.specs.Theorems.{BytesBack, StateBack, StateFits, BytesLong}
+use Rattle.rules.specs.Calls.{Open, Put, Get, Deliver, Drain, Served, serve}
+use Rattle.rules.specs.Cases.{Case, cases, Computed}
+use Rattle.rules.specs.Bounds.{bounds}
+use Rattle.rules.specs.SoundCases.{Fact, tables, answered, expected}
+use Rattle.laws.specs.Theorems.{SoundTested, AcceptedSound, KeepsSound, RefusedKeeps, CodesListed, GivenExactly, AcceptedExactly, SpentExactly, RefusedZeros, MissingNamed, DrainDelivers, DrainRises, DrainEnds, TriesWithin, TriesBounded, PendingBounded, BudgetEnough, DrainPrefix}
+use Rattle.causal.specs.World.{Set, World, Run}
+use Rattle.causal.specs.History.{History, AppliedExactly, CausalRun}
+use Rattle.causal.specs.Anomalies.{Anomalies}
+use Rattle.causal.specs.Refines.{Tops, SameAnswers, PutsCounted, Causal}
+use Rattle.demands.specs.Demands.{Demand1, Demand2, Demand3, NothingDelivered, play}
+use Rattle.demands.specs.Schedule.{schedule, by-hand}
+use Rattle.table.specs.NoSecond as table
+use Rattle.table.specs.Worked as worked
+use Rattle.forkcanyon.specs.Host.{mostTries}
+use Rattle.forkcanyon.specs.NoSecond as host
+use Rattle.forkcanyon.specs.Worked as replies
+use Rattle.forkcanyon.specs.Theorems.{WrongReply, WrongTable, SizeExactly}
+use Rattle.schedule.specs.declared.Step.{Step}
+use Rattle.schedule.specs.Step.{Promise}
+use Rattle.schedule.specs.Written.{Written}
+use Rattle.schedule.specs.Theorems.{RestIgnored, AlwaysEnds}
+
+-- the three demands
+pub record Demands : Type 1 where
+  -- any call on any buffer answers the first condition that holds, and a refusal leaves every byte
+  pub one : Demand1
+  -- .. also a drain that delivered nothing, whatever it answers
+  pub nothing-delivered : NothingDelivered
+  -- put, get and deliver are figure 7's steps, from every sound table
+  pub two : Demand2
+  -- every site has its order, and nothing accepted is held back for good, from every opening
+  pub three : Demand3
+
+-- what demand 3 rests on and shuts out
+pub record OfHistories : Type 1 where
+  -- every run of figure 7 has it
+  pub every-run : {n k : ℕ} {h : History} {W : World} → Run n k h W → CausalRun n h W
+  -- the greatest clock for each site and the set of pairs give the same answers
+  pub same-answers : (v : Vector) (d : Set) → Tops v d → SameAnswers v d
+  -- an order has exactly the puts applied at its site, and a history only puts that the table counts
+  pub applied-exactly : AppliedExactly
+  pub puts-counted : PutsCounted
+  -- histories that no store may make have no order
+  pub anomalies : Anomalies
+  -- document 01's schedule, on any buffer, has the history that a reader would write, and is causal
+  pub schedule : (t : List ℕ) → length t ≡ table .width → let p = play (serve t (Open 3 4) .bytes) [] schedule in
+      (p .1 ≡ by-hand) × Causal (stateOf (p .0)) (λ c. serve (p .0) c .answer) by-hand
+
+-- no second outcome: of each public call's promise
+pub record NoSecondOutcome : Type 0 where
+  pub opens : (n k : ℕ) → table.NoSecond (Open n k) × table.One (Open n k)
+  pub puts : (s x v : ℕ) → table.NoSecond (Put s x v) × table.One (Put s x v)
+  pub gets : (s x : ℕ) → table.NoSecond (Get s x) × table.One (Get s x)
+  pub delivers : (s o : ℕ) → table.NoSecond (Deliver s o) × table.One (Deliver s o)
+  pub drains : (s b : ℕ) → table.NoSecond (Drain s b) × table.One (Drain s b)
+  pub fc-open : (n k : ℕ) → host.NoSecond (Open n k) × host.One (Open n k)
+  pub fc-put : (s x v : ℕ) → host.NoSecond (Put s x v) × host.One (Put s x v)
+  pub fc-get : (s x : ℕ) → host.NoSecond (Get s x) × host.One (Get s x)
+  pub fc-deliver : (s o : ℕ) → host.NoSecond (Deliver s o) × host.One (Deliver s o)
+  pub fc-drain : (s b : ℕ) → host.NoSecond (Drain s (min b mostTries)) × host.One (Drain s (min b mostTries))
+  pub plays : (t : List ℕ) (p : Step) → ((w w′ : Served) → Promise t p w → Promise t p w′ → w ≡ w′) × ((w : Served) × Promise t p w)
+  pub written : {before text after after′ : List ℕ} {at end end′ : ℕ} → Written before at text end after → Written before at text end′ after′
+      → (end ≡ end′) × (after ≡ after′)
+
+-- worked cases, computed from the rules
+pub record OfCases : Type 0 where
+  -- document 01's starred cases and its schedule; each number and step at its bounds
+  pub starred : Computed cases
+  pub at-bounds : Computed bounds
+  -- all of them: case 15 has two tables, 0 is the schedule
+  pub which : map (λ (c : Case). c .number) cases ≡ 1 ∷ 3 ∷ 4 ∷ 5 ∷ 6 ∷ 7 ∷ 9 ∷ 10 ∷ 11 ∷ 12 ∷ 13 ∷ 15 ∷ 15 ∷ 0 ∷ []
+  pub how-many : length bounds ≡ 23
+  -- for each fact of soundness a table that breaks it, and a neighbour that is sound
+  pub fact-by-fact : (f : Fact) → map answered (tables f) ≡ map expected (tables f)
+
+-- what a worked case says, by its name
+abbrev Says : {A : Type 0} → A → Type 0
+Says {A} a = A
+
+-- the bytes of a table and its numbers say the same
+pub record OfBytes : Type 0 where
+  -- bytes read as numbers and laid out again are the same bytes
+  pub bytes-back : BytesBack
+  -- numbers within their widths, laid out and read again, are the same numbers
+  pub state-back : StateBack
+  -- what is read of bytes is within its width, and what is laid out has the table's size
+  pub state-fits : StateFits
+  pub bytes-long : BytesLong
+  -- document 01's sizes and places, a worked table at them, and worked replies
+  pub sizes : Says the-widths × Says the-offsets
+  pub worked-table : Says worked.long × Says worked.header × Says worked.applied × Says worked.depends × Says worked.entry × Says worked.update
+  pub worked-replies : Says replies.reply × Says replies.put × Says replies.spent
+  -- code 1 at the host: a reply or a table of another size
+  pub wrong-reply : WrongReply
+  pub wrong-table : WrongTable
+  pub size-exactly : SizeExactly
+
+-- "A table is sound when all of these hold"
+pub record OfSoundness : Type 0 where
+  -- the test that the calls make decides exactly document 01's words
+  pub tested : SoundTested
+  -- every accepted call leaves a sound table, and so does every call on a sound one
+  pub accepted : AcceptedSound
+  pub kept : KeepsSound
+
+-- "given exactly when"
+pub record OfCodes : Type 0 where
+  -- each call's codes, as they are asked
+  pub listed : CodesListed
+  -- a code is answered exactly when it is given, 0 and 11 exactly when none is
+  pub given : GivenExactly
+  pub accepted : AcceptedExactly
+  pub spent : SpentExactly
+  -- a refusal keeps the table, and has zeros beside its code
+  pub keeps : RefusedKeeps
+  pub zeros : RefusedZeros
+  -- beside 10 stands what the delivery waits for
+  pub missing : MissingNamed
+
+-- "passes over origins .. It ends after a pass that delivered nothing"
+pub record OfDrain : Type 0 where
+  -- a drain is its deliveries, and its answer counts them
+  pub delivers : DrainDelivers
+  pub rises : DrainRises
+  pub ends : DrainEnds
+  pub prefix : DrainPrefix
+  -- "at most P + (n - 1)(P + 1) tries. P is at most 112, so a budget of 903 is always enough"
+  pub within : TriesWithin
+  pub bounded : TriesBounded
+  pub pending : PendingBounded
+  pub enough : BudgetEnough
+
+-- the text of a schedule's run
+pub record OfListings : Type 0 where
+  -- "what follows them is ignored"; every listing ends in an `end` or a `cut` line
+  pub rest-ignored : RestIgnored
+  pub always-ends : AlwaysEnds
+
+pub record Claims : Type 1 where
+  pub demands : Demands
+  pub histories : OfHistories
+  pub outcomes : NoSecondOutcome
+  pub cases : OfCases
+  pub bytes : OfBytes
+  pub soundness : OfSoundness
+  pub codes : OfCodes
+  pub drain : OfDrain
+  pub listings : OfListings

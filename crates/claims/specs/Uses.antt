@@ -1,0 +1,91 @@
+-- The demands at their edges: each field uses a field of a demand, an order or an anomaly, so that one that is lost or says less is an error. Assumes nothing.
+use mathlib.Core.Path.{_≡_}
+use mathlib.Core.List.{List, [], _∷_}
+use mathlib.Core.Logic.{_≢_}
+use Prim.Native.Nat.{ℕ, suc, _+_, _^_, _≤_, _<_}
+use lib.ListN.{length}
+use Rattle.clock.specs.Lists.{_∈_}
+use Rattle.layout.specs.State.{table, stateOf, lastClock}
+use Rattle.layout.specs.Ranges.{Bytes}
+use Rattle.rules.specs.Sound.{Sound}
+use Rattle.rules.specs.Steps.{refused}
+use Rattle.rules.specs.Calls.{Call, Open, Put, Get, Deliver, Drain, asks, serve}
+use Rattle.laws.specs.Theorems.{Clear, needed}
+use Rattle.causal.specs.World.{Answer, never, wrote, World, due, waiting, withPut, withGet, withUpdate, Behind, CausesApplied, put, get, update}
+use Rattle.causal.specs.History.{History, Cause, Lacks}
+use Rattle.causal.specs.Refines.{Abstracts, numbers, after-call}
+use Rattle.causal.specs.Anomalies.{NoOrder, forged, twice, second-first, effect-alone, effect-first, far-effect-first, forgotten, blind, early, prophecy}
+use Rattle.demands.specs.Demands.{play}
+
+-- demand 1: any buffer
+pub record OfBuffer (t : List ℕ) : Type 0 where
+  -- a call is accepted where no condition holds, and only there
+  pub accepts : (s x : ℕ) → Clear (asks t (Get s x)) → serve t (Get s x) .answer .code ≡ 0
+  pub only : (s x : ℕ) → serve t (Get s x) .answer .code ≡ 0 → Clear (asks t (Get s x))
+  -- a drain without a budget answers 11 where a try is due
+  pub spent : (s : ℕ) → serve t (Drain s 0) .answer .code ≡ 11 → 0 < needed (stateOf t) s
+  -- "the other numbers are 0", and "the table keeps all bytes"
+  pub zeros : (s x : ℕ) → serve t (Get s x) .answer .code ≡ 6 → serve t (Get s x) .answer ≡ refused 6
+  pub keeps : (s o : ℕ) → serve t (Deliver s o) .answer .code ≡ 10 → serve t (Deliver s o) .bytes ≡ t
+  -- a drain that made one delivery left what that delivery leaves
+  pub delivered : (s b : ℕ) → serve t (Drain s b) .answer .clock ≡ 1
+      → (o : ℕ) × (serve t (Deliver s o) .answer .code ≡ 0) × (serve t (Drain s b) .bytes ≡ serve t (Deliver s o) .bytes)
+  -- the buffer stays as long
+  pub whole : (c : Call) → (length (serve t c .bytes) ≡ length t) × Bytes (serve t c .bytes)
+
+-- demand 2: a sound table and its world
+pub record OfTable (t : List ℕ) (W : World) : Type 1 where
+  -- put, get and deliver answer as figure 7's labels say, and leave figure 7's worlds
+  pub puts : (s x v : ℕ) → v < 256 ^ 4 → s < stateOf t .n → x < stateOf t .k → stateOf t .applied s s < lastClock
+      → ((s′ : ℕ) → s′ < stateOf t .n → stateOf t .applied s s < stateOf t .applied s′ s + 16)
+      → let r = serve t (Put s x v) in
+      (r .answer ≡ numbers (put s x v (suc (length (W .updates s))))) × Abstracts (stateOf (r .bytes)) (withPut W s x v) × Sound (stateOf (r .bytes))
+  pub gets : (s x : ℕ) → s < stateOf t .n → x < stateOf t .k → let r = serve t (Get s x) in
+      (r .answer ≡ numbers (get s x (W .store s x .answer))) × Abstracts (stateOf (r .bytes)) (withGet W s x) × Sound (stateOf (r .bytes))
+  pub delivers : (s o : ℕ) → s < stateOf t .n → o < stateOf t .n → s ≢ o → Behind W s o → CausesApplied W s o → let r = serve t (Deliver s o) in
+      (r .answer ≡ numbers (update s o (due W s o) (waiting W s o .key) (waiting W s o .value)))
+      × Abstracts (stateOf (r .bytes)) (withUpdate W s o) × Sound (stateOf (r .bytes))
+  -- a put past the last clock is refused, and a refusal leaves the table
+  pub last : (s x v : ℕ) → v < 256 ^ 4 → stateOf t .applied s s ≡ lastClock → let r = serve t (Put s x v) in (r .answer .code ≢ 0) × (stateOf (r .bytes) ≡ stateOf t)
+  -- 9: nothing is under way; 10: a cause is missing, of the lowest site and there the greatest
+  pub nine : (s o : ℕ) → s < stateOf t .n → o < stateOf t .n → s ≢ o → (Behind W s o → ⊥) → serve t (Deliver s o) .answer .code ≡ 9
+  pub ten : (s o : ℕ) → s < stateOf t .n → o < stateOf t .n → s ≢ o → Behind W s o → (CausesApplied W s o → ⊥) → let a = serve t (Deliver s o) .answer in
+      (W .applied s (a .site) < a .clock) × waiting W s o .depends (a .site) (a .clock)
+      × ((o′ c′ : ℕ) → waiting W s o .depends o′ c′ → W .applied s o′ < c′ → a .site ≤ o′)
+      × ((c′ : ℕ) → waiting W s o .depends (a .site) c′ → c′ ≤ a .clock)
+
+-- demand 3: a table after any calls, and their history
+pub record OfHistory (t : List ℕ) (h : History) : Type 1 where
+  -- a site's get after its own put answers that put
+  pub own-put : (g : History) (s x v c : ℕ) (a : Answer) → h ≡ get s x a ∷ put s x v c ∷ g → a ≡ wrote v s c
+  -- and after it was handed a put answers that
+  pub handed-put : (g : History) (s o x v c : ℕ) (a : Answer) → s < stateOf t .n → h ≡ get s x a ∷ update s o c x v ∷ g → a ≡ wrote v o c
+  -- what a site was handed was put before, is not handed again, and its causes stand before it
+  pub made : (g : History) (s o c x v : ℕ) → s < stateOf t .n → h ≡ update s o c x v ∷ g → put o x v c ∈ g
+  pub once : (g : History) (s o c x v x′ v′ : ℕ) → s < stateOf t .n → h ≡ update s o c x v ∷ g → update s o c x′ v′ ∈ g → ⊥
+  pub caused : (g : History) (s o c x v o′ c′ : ℕ) → s < stateOf t .n → s ≢ o′ → h ≡ update s o c x v ∷ g → Cause h o′ c′ o c
+      → (x′ : ℕ) × (v′ : ℕ) × update s o′ c′ x′ v′ ∈ g
+  -- the table counts each put
+  pub counted : (o x v c : ℕ) → put o x v c ∈ h → c ≤ stateOf t .applied o o
+  -- after one put, a delivery to each other site is accepted, and after a drain there that answers 0 it has the put
+  pub live : (s o x v c : ℕ) → s < stateOf t .n → s ≢ o → h ≡ put o x v c ∷ [] → (o′ : ℕ) × (serve t (Deliver s o′) .answer .code ≡ 0)
+  pub drains : (s o b x v c : ℕ) → s ≢ o → h ≡ put o x v c ∷ [] → let a = serve t (Drain s b) .answer in a .code ≡ 0
+      → Lacks (after-call (stateOf t) (Drain s b) a h) s o c → ⊥
+
+pub record Uses : Type 1 where
+  -- a buffer of 0 bytes answers 1, with zeros beside it
+  pub nothing : serve [] (Get 0 0) .answer ≡ refused 1
+  -- every buffer
+  pub buffers : (t : List ℕ) → Bytes t → OfBuffer t
+  -- every sound table has a world
+  pub tables : (t : List ℕ) → Bytes t → length t ≡ table .width → Sound (stateOf t) → (W : World) × OfTable t W
+  -- every list of calls after an opening
+  pub histories : (t : List ℕ) (n k : ℕ) → serve t (Open n k) .answer .code ≡ 0 →
+      (cs : List Call) → ((s x v : ℕ) → Put s x v ∈ cs → v < 256 ^ 4) →
+      let p = play (serve t (Open n k) .bytes) [] cs in
+      OfHistory (p .0) (p .1)
+  -- no order for a put invented or repeated; before an own put, a put got, a cause of a cause; without its cause; overlooked; early
+  pub none : NoOrder forged 1 × NoOrder twice 1 × NoOrder second-first 1 × NoOrder effect-first 2 × NoOrder far-effect-first 3 × NoOrder effect-alone 2
+      × NoOrder forgotten 0 × NoOrder blind 1 × NoOrder early 1 × NoOrder prophecy 1
+  -- nor for one from its own site
+  pub itself : NoOrder (update 0 0 1 5 7 ∷ put 0 5 7 1 ∷ []) 0

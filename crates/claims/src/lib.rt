@@ -1,0 +1,1 @@
+// What Forkcanyon claims, on one page: statements and their proofs, no code.

@@ -1,0 +1,56 @@
+-- A drain is its deliveries, over bytes. Assumes nothing.
+use mathlib.Core.Path.{_≡_, refl, sym, ap, subst, _∙_}
+use mathlib.Core.List.{List, [], _∷_}
+use mathlib.Core.Logic.{⊎-elim}
+use Prim.Native.Nat.{ℕ, suc}
+use native.Mathlib.Omega.{arith}
+use lib.ListN.{length}
+use Rattle.layout.specs.State.{State, table, stateOf, bytesOf}
+use Rattle.layout.specs.Ranges.{Bytes, Fits}
+use Rattle.layout.proofs.TableTrips.{bytes-back, state-fits}
+use Rattle.rules.specs.Steps.{Numbers, Outcome, refused}
+use Rattle.rules.specs.Drain.{drained, drain}
+use Rattle.rules.specs.Calls.{Deliver, Drain, beside, step, run, Served, serve}
+use Rattle.laws.specs.Theorems.{Delivers, start, one-more}
+use Rattle.laws.proofs.Given.{run-cases}
+use Rattle.laws.proofs.Draining.{drain-delivers}
+use Rattle.laws.proofs.Fitting.{deliver-sized, run-fits}
+use Rattle.demands.specs.Demands.{Delivered, none, next, Answered, NothingDelivered}
+use Rattle.demands.proofs.Serving.{serve-state}
+
+-- no delivery leaves the bytes
+pub same-bytes : {s m : ℕ} {t u : List ℕ} → Delivered s t m u → m ≡ 0 → u ≡ t
+same-bytes none z = refl
+same-bytes (next d o k) z = absurd (omega arith)
+
+pub nothing-delivered : NothingDelivered
+nothing-delivered t s b r A z = same-bytes (A .delivered s b refl) (omega arith)
+
+-- deliveries on the state are deliveries on its bytes
+on-bytes : {s : ℕ} {S R : State} {made : List Numbers} → Fits S → Delivers s S made R → Fits R × Delivered s (bytesOf S) (length made) (bytesOf R)
+on-bytes F start = (F, none)
+on-bytes {s} {S} F (one-more {made = made} {R = R} D o z) =
+    let p = on-bytes F D in
+    let e = serve-state R (p .0) (Deliver s o) in (
+      run-fits R (Deliver s o) (deliver-sized s o) (p .0),
+      subst (λ (r : Served). Delivered s (bytesOf S) (suc (length made)) (r .bytes)) e (next (p .1) o (ap (λ (r : Served). r .answer .code) e ∙ z)),
+    )
+
+pub drain-bytes : (t : List ℕ) → Bytes t → length t ≡ table .width → (s b : ℕ)
+    → let r = run (stateOf t) (Drain s b) in Delivered s t (r .answer .clock) (bytesOf (r .after))
+unfolding step beside
+drain-bytes t B h s b =
+    ⊎-elim (λ p. rw (p .1) (subst (λ (u : List ℕ). Delivered s u (drain S s b .answer .clock) (bytesOf (drain S s b .after))) back its))
+    (λ p. rw (p .1) (subst (λ (u : List ℕ). Delivered s t 0 u) (sym back) none))
+    (run-cases S (Drain s b))
+  where
+    S : State
+    S = stateOf t
+
+    back : bytesOf S ≡ t
+    back = bytes-back t h B
+
+    its : Delivered s (bytesOf S) (drain S s b .answer .clock) (bytesOf (drain S s b .after))
+    its =
+        let d = drain-delivers S s b in
+        rw (d .1) (on-bytes (state-fits t h B) (d .0) .1)

@@ -1,0 +1,81 @@
+-- Every call leaves a sound table sound, and an accepted one leaves no other. Assumes nothing.
+use mathlib.Core.Path.{_≡_, refl, sym, subst}
+use mathlib.Core.Bool.{false}
+use mathlib.Core.List.{[]}
+use mathlib.Core.Logic.{⊎-elim, _≢_}
+use Prim.Native.Nat.{ℕ}
+use lib.Dec.{eqb}
+use Rattle.clock.proofs.Maps.{choice}
+use Rattle.layout.specs.State.{State}
+use Rattle.rules.specs.Sound.{Sound}
+use Rattle.rules.specs.Steps.{Outcome, put, get, learn, deliver}
+use Rattle.rules.specs.Refusals.{first}
+use Rattle.rules.specs.Drain.{turn, drained, drain}
+use Rattle.rules.specs.Calls.{Call, Open, Put, Get, Deliver, Drain, refusals, step, run}
+use Rattle.laws.specs.Theorems.{AcceptedSound, KeepsSound}
+use Rattle.laws.proofs.Ready.{open-ready, put-ready, get-ready, deliver-ready, drain-ready}
+use Rattle.laws.proofs.Given.{run-cases, run-accepted}
+use Rattle.laws.proofs.Keeps.{open-sound, put-sound, get-sound, deliver-sound}
+use Rattle.laws.proofs.Draining.{by-deliveries}
+
+-- what holds of the table and of the one after a step
+pub after-run : (S : State) (c : Call) (P : State → Type 0) → (first (refusals S c) ≡ 0 → P (step S c .after)) → P S → P (run S c .after)
+after-run S c P f p =
+    ⊎-elim
+    (λ q. subst (λ (r : Outcome). P (r .after)) (sym (q .1)) (f (q .0)))
+    (λ q. subst (λ (r : Outcome). P (r .after)) (sym (q .1)) p)
+    (run-cases S c)
+
+-- ## Soundness
+
+pub drained-sound : (S : State) (s b : ℕ) → Sound S → Sound (drained S s b .after)
+unfolding drained
+drained-sound S s b =
+    by-deliveries s (λ b S T ds t r. Sound S → Sound (r .after))
+    (λ b S ds t D. D)
+    (λ S o d ds t D. D)
+    (λ b S o d ds t r R f D. f (deliver-sound S s o R))
+    (λ b S o d ds t r z f D. f D)
+    b S (turn (S .n) s 0 false) [] 0
+
+pub step-sound : (S : State) (c : Call) → first (refusals S c) ≡ 0 → Sound (step S c .after)
+unfolding step drain refusals
+step-sound S (Open n k) z = open-sound n k (open-ready n k .0 z)
+step-sound S (Put s x v) z = put-sound S s x v (put-ready S s x .0 z)
+step-sound S (Get s x) z = get-sound S s x (get-ready S s x .0 z .sound)
+step-sound S (Deliver s o) z = deliver-sound S s o (deliver-ready S s o .0 z)
+step-sound S (Drain s b) z = drained-sound S s b (drain-ready S s .0 z .sound)
+
+pub accepted-sound : AcceptedSound
+accepted-sound S c z =
+    let r = run-accepted S c z in subst (λ (x : Outcome). Sound (x .after)) (sym (r .1)) (step-sound S c (r .0))
+
+pub keeps-sound : KeepsSound
+keeps-sound S c = after-run S c Sound (step-sound S c)
+
+-- ## The counts of sites and keys
+
+abbrev pub SameCounts : State → State → Type 0
+SameCounts S T = (T .n ≡ S .n) × (T .k ≡ S .k)
+
+drained-counts : (S : State) (s b : ℕ) → SameCounts S (drained S s b .after)
+unfolding drained deliver
+drained-counts S₀ s b =
+    by-deliveries s (λ b S T ds t r. SameCounts S₀ S → SameCounts S₀ (r .after))
+    (λ b S ds t D. D)
+    (λ S o d ds t D. D)
+    (λ b S o d ds t r R f D. f D)
+    (λ b S o d ds t r z f D. f D)
+    b S₀ (turn (S₀ .n) s 0 false) [] 0 (refl, refl)
+
+step-counts : (S : State) (c : Call) → ((n k : ℕ) → c ≢ Open n k) → SameCounts S (step S c .after)
+unfolding step put get learn deliver drain
+step-counts S (Open n k) h = absurd (h n k refl)
+step-counts S (Put s x v) h = (refl, refl)
+step-counts S (Get s x) h = choice (eqb (S .store s x .clock) 0) (SameCounts S) (λ e. (refl, refl)) (λ e. (refl, refl))
+step-counts S (Deliver s o) h = (refl, refl)
+step-counts S (Drain s b) h = drained-counts S s b
+
+-- only open changes them
+pub counts-kept : (S : State) (c : Call) → ((n k : ℕ) → c ≢ Open n k) → SameCounts S (run S c .after)
+counts-kept S c h = after-run S c (SameCounts S) (λ z. step-counts S c h) (refl, refl)

@@ -1,0 +1,170 @@
+-- Every call leaves a table whose numbers fit their bytes. Assumes nothing.
+use mathlib.Core.Path.{_≡_, refl, sym, ap, subst, _∙_}
+use mathlib.Core.Bool.{false}
+use mathlib.Core.List.{List, []}
+use mathlib.Core.Logic.{⊎-elim}
+use Prim.Native.Nat.{ℕ, _^_, _<_}
+use native.Mathlib.Omega.{arith}
+use lib.Dec.{eqb}
+use borrow.Author.Tests.{eqb-false}
+use lib.ListN.{getD, length, replicate, length-replicate}
+use Rattle.clock.specs.Map.{_⟨_≔_⟩, _⟨_⟩⟨_≔_⟩}
+use Rattle.clock.specs.Vector.{Vector, zeros, join, note}
+use Rattle.clock.proofs.Maps.{choice, at-is}
+use Rattle.clock.proofs.Cells.{cells-zeros}
+use Rattle.layout.specs.Codec.{Codec, row}
+use Rattle.layout.specs.State.{State, Entry, Update, ofEntry, ofUpdate, allZero, clock, vector, entry, update, table, withApplied, withDepends, withStore, withUpdates}
+use Rattle.layout.specs.Ranges.{Bytes, Rows, FitsVector, FitsFields, Fits}
+use Rattle.layout.proofs.TableTrips.{state-fits}
+use Rattle.layout.proofs.Zeros.{all-zero}
+use Rattle.rules.specs.Sound.{place}
+use Rattle.rules.specs.Steps as r
+use Rattle.rules.specs.Steps.{opened, learn}
+use Rattle.rules.specs.Drain.{drained, drain, turn}
+use Rattle.rules.specs.Refusals.{first}
+use Rattle.rules.specs.Calls.{Call, Open, Put, Get, Deliver, Drain, refusals, step, run}
+use Rattle.laws.proofs.Ready.{OpenReady, PutReady, GetReady, DeliverReady, open-ready, put-ready, get-ready, deliver-ready}
+use Rattle.laws.proofs.Keeps.{get-origin, deliver-behind, deliver-waiting}
+use Rattle.laws.proofs.Draining.{by-deliveries}
+use Rattle.laws.proofs.After.{after-run}
+
+-- ## Rows with one part changed
+
+rows-set : {A : Type 0} (m : ℕ) (c : Codec A) (ok : A → Type 0) (f : ℕ → A) → Rows m c ok f → (i : ℕ) (a : A) → i < m → ok a → Rows m c ok (f ⟨ i ≔ a ⟩)
+rows-set m c ok f F i a h p = (
+  (λ j l. ⊎-elim (λ q. subst ok (sym (q .1)) p) (λ q. subst ok (sym (q .1)) (F .0 j l)) (at-is f i a j)),
+  λ j l. ⊎-elim (λ q. absurd (omega (arith, q .0))) (λ q. q .1 ∙ F .1 j l) (at-is f i a j),
+)
+
+rows-set₂ : {A : Type 0} (m k : ℕ) (c : Codec A) (ok : A → Type 0) (f : ℕ → ℕ → A) → Rows m (row k c) (Rows k c ok) f → (i j : ℕ) (a : A)
+    → i < m → j < k → ok a → Rows m (row k c) (Rows k c ok) (f ⟨ i ⟩⟨ j ≔ a ⟩)
+rows-set₂ m k c ok f F i j a h l p = rows-set m (row k c) (Rows k c ok) f F i (f i ⟨ j ≔ a ⟩) h (rows-set k c ok (f i) (F .0 i h) j a l p)
+
+join-fits : (v w : Vector) → FitsVector v → FitsVector w → FitsVector (join v w)
+join-fits v w F G = ((λ j h. omega (arith, F .0 j h, G .0 j h)), λ j h. omega (arith, F .1 j h, G .1 j h))
+
+note-fits : (v : Vector) (o c : ℕ) → FitsVector v → o < 8 → c < 256 ^ 2 → FitsVector (note v o c)
+note-fits v o c F h l = rows-set 8 clock (λ c. c < 256 ^ 2) v F o _ h (omega (arith, F .0 o h))
+
+zeros-fit : FitsVector zeros
+zeros-fit = ((λ j h. omega arith), λ j h. refl)
+
+-- ## The parts of a state that fits
+
+module _ (S : State) (F : Fits S) where
+  applied-fits : (s o : ℕ) → s < 8 → o < 8 → S .applied s o < 256 ^ 2
+  applied-fits s o p q = F .1 .1 .1 .1 .0 .0 s p .0 o q
+
+  depends-fits : (s : ℕ) → s < 8 → FitsVector (S .depends s)
+  depends-fits s p = F .1 .1 .1 .1 .1 .0 .0 s p
+
+  entry-fits : (s x : ℕ) → s < 8 → x < 64 → FitsFields (ofEntry (S .store s x))
+  entry-fits s x p q = F .1 .1 .1 .1 .1 .1 .0 .0 s p .0 x q
+
+  update-fits : (o p : ℕ) → o < 8 → p < 16 → FitsFields (ofUpdate (S .updates o p))
+  update-fits o p h l = F .1 .1 .1 .1 .1 .1 .1 .0 o h .0 p l
+
+  -- a part changed for one that fits
+  with-applied : (a : ℕ → Vector) → Rows 8 vector FitsVector a → Fits (withApplied S a)
+  with-applied a G = (F .0, (F .1 .0, (F .1 .1 .0, (F .1 .1 .1 .0, (G, F .1 .1 .1 .1 .1)))))
+
+  with-depends : (d : ℕ → Vector) → Rows 8 vector FitsVector d → Fits (withDepends S d)
+  with-depends d G = (F .0, (F .1 .0, (F .1 .1 .0, (F .1 .1 .1 .0, (F .1 .1 .1 .1 .0, (G, F .1 .1 .1 .1 .1 .1))))))
+
+  with-entry : (s x : ℕ) (e : Entry) → s < 8 → x < 64 → FitsFields (ofEntry e) → Fits (withStore S (S .store ⟨ s ⟩⟨ x ≔ e ⟩))
+  with-entry s x e p q g =
+      let G = rows-set₂ 8 64 entry (λ e. FitsFields (ofEntry e)) (S .store) (F .1 .1 .1 .1 .1 .1 .0) s x e p q g in
+      (F .0, (F .1 .0, (F .1 .1 .0, (F .1 .1 .1 .0, (F .1 .1 .1 .1 .0, (F .1 .1 .1 .1 .1 .0, (G, F .1 .1 .1 .1 .1 .1 .1)))))))
+
+  with-update : (o p : ℕ) (u : Update) → o < 8 → p < 16 → FitsFields (ofUpdate u) → Fits (withUpdates S (S .updates ⟨ o ⟩⟨ p ≔ u ⟩))
+  with-update o p u h l g =
+      let G = rows-set₂ 8 16 update (λ u. FitsFields (ofUpdate u)) (S .updates) (F .1 .1 .1 .1 .1 .1 .1) o p u h l g in
+      (F .0, (F .1 .0, (F .1 .1 .0, (F .1 .1 .1 .0, (F .1 .1 .1 .1 .0, (F .1 .1 .1 .1 .1 .0, (F .1 .1 .1 .1 .1 .1 .0, G)))))))
+
+  with-count : (s o c : ℕ) → s < 8 → o < 8 → c < 256 ^ 2 → Fits (withApplied S (S .applied ⟨ s ⟩⟨ o ≔ c ⟩))
+  with-count s o c p q h = with-applied _ (rows-set₂ 8 8 clock (λ c. c < 256 ^ 2) (S .applied) (F .1 .1 .1 .1 .0) s o c p q h)
+
+  with-row : (s : ℕ) (v : Vector) → s < 8 → FitsVector v → Fits (withDepends S (S .depends ⟨ s ≔ v ⟩))
+  with-row s v p h = with-depends _ (rows-set 8 vector FitsVector (S .depends) (F .1 .1 .1 .1 .1 .0) s v p h)
+
+-- ## The steps
+
+zero-fits : (l : List ℕ) → length l ≡ table .width → ((i : ℕ) → getD l i 0 ≡ 0) → Fits allZero
+unfolding Bytes
+zero-fits l h z = subst Fits (all-zero l z) (state-fits l h (λ i. omega (arith, z i)))
+
+pub open-fits : (n k : ℕ) → OpenReady n k → Fits (opened n k)
+unfolding opened
+open-fits n k R =
+    let F = zero-fits (replicate (table .width) 0) (length-replicate {A = ℕ} (table .width) 0) (λ i. ap (λ (g : ℕ → ℕ). g i) (cells-zeros (table .width))) in
+    (omega (arith, R .sites), (omega (arith, R .keys), F .1 .1))
+
+module _ (S : State) (F : Fits S) where
+  put-fits : (s x v : ℕ) → PutReady S s x → v < 256 ^ 4 → Fits (r.put S s x v .after)
+  unfolding r.put
+  put-fits s x v R h =
+      let p : s < 8 = omega (arith, R .site, R .sound .sites) in
+      let q : x < 64 = omega (arith, R .key, R .sound .keys) in
+      let c : r.next S s s < 256 ^ 2 = omega (arith, applied-fits S F s s p p, R .clock) in
+      let u : Update = record { value = v; key = x; zero = 0; clock = r.next S s s; depends = S .depends s } in
+      let e : Entry = record { value = v; origin = s; zero = 0; clock = r.next S s s; depends = zeros } in
+      let U = with-update S F s (place (r.next S s s)) u p (omega arith) (h, (omega arith, (omega arith, (c, depends-fits S F s p)))) in
+      let E = with-entry _ U s x e p q (h, (omega arith, (omega arith, (c, zeros-fit)))) in
+      with-row _ (with-count _ E s s (r.next S s s) p p c) s _ p (note-fits _ s _ (depends-fits S F s p) p c)
+
+  get-fits : (s x : ℕ) → GetReady S s x → Fits (r.get S s x .after)
+  unfolding r.get learn
+  get-fits s x R =
+      choice (eqb (S .store s x .clock) 0) Fits (λ e. F) λ e.
+      let p : s < 8 = omega (arith, R .site, R .sound .sites) in
+      let g = entry-fits S F s x p (omega (arith, R .key, R .sound .keys)) in
+      let w = S .store s x in
+      let o : w .origin < 8 = omega (arith, get-origin S s x R (eqb-false _ _ e), R .sound .sites) in
+      let joined = join (S .depends s) (w .depends) in
+      with-row S F s (note joined (w .origin) (w .clock)) p (note-fits joined (w .origin) (w .clock) (join-fits _ _ (depends-fits S F s p) (g .1 .1 .1 .1)) o (g .1 .1 .1 .0))
+
+  deliver-fits : (s o : ℕ) → DeliverReady S s o → Fits (r.deliver S s o .after)
+  unfolding r.deliver
+  deliver-fits s o R =
+      let p : s < 8 = omega (arith, R .site, R .sound .sites) in
+      let q : o < 8 = omega (arith, R .origin, R .sound .sites) in
+      let c : r.next S s o < 256 ^ 2 = omega (arith, deliver-behind S s o R, applied-fits S F o o q q) in
+      let g = update-fits S F o (place (r.next S s o)) q (omega arith) in
+      let e : Entry = record { value = r.waiting S s o .value; origin = o; zero = 0; clock = r.next S s o; depends = r.waiting S s o .depends } in
+      let E = with-entry S F s (r.waiting S s o .key) e p (omega (arith, deliver-waiting S s o R .1, R .sound .keys))
+      (g .0, (omega arith, (omega arith, (c, g .1 .1 .1 .1)))) in
+      with-count _ E s o _ p q c
+
+drained-fits : (S : State) (s b : ℕ) → Fits S → Fits (drained S s b .after)
+unfolding drained
+drained-fits S s b =
+    by-deliveries s (λ b S T ds t r. Fits S → Fits (r .after))
+    (λ b S ds t F. F)
+    (λ S o d ds t F. F)
+    (λ b S o d ds t r R f F. f (deliver-fits S F s o R))
+    (λ b S o d ds t r z f F. f F)
+    b S (turn (S .n) s 0 false) [] 0
+
+-- a value is 4 bytes
+abbrev pub Sized : Call → Type 0
+Sized c = (s x v : ℕ) → c ≡ Put s x v → v < 256 ^ 4
+
+pub put-sized : (s x v : ℕ) → v < 256 ^ 4 → Sized (Put s x v)
+put-sized s x v h s′ x′ v′ e = let z : v ≡ v′ = cc in omega arith
+
+pub get-sized : (s x : ℕ) → Sized (Get s x)
+get-sized s x s′ x′ v′ e = let z : _≡_ {A = ℕ} 0 1 = cc in omega arith
+
+pub deliver-sized : (s o : ℕ) → Sized (Deliver s o)
+deliver-sized s o s′ x′ v′ e = let z : _≡_ {A = ℕ} 0 1 = cc in omega arith
+
+step-fits : (S : State) (c : Call) → Sized c → Fits S → first (refusals S c) ≡ 0 → Fits (step S c .after)
+unfolding step drain refusals
+step-fits S (Open n k) h F z = open-fits n k (open-ready n k .0 z)
+step-fits S (Put s x v) h F z = put-fits S F s x v (put-ready S s x .0 z) (h s x v refl)
+step-fits S (Get s x) h F z = get-fits S F s x (get-ready S s x .0 z)
+step-fits S (Deliver s o) h F z = deliver-fits S F s o (deliver-ready S s o .0 z)
+step-fits S (Drain s b) h F z = drained-fits S s b F
+
+pub run-fits : (S : State) (c : Call) → Sized c → Fits S → Fits (run S c .after)
+run-fits S c h F = after-run S c Fits (step-fits S c h F) F

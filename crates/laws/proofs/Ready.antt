@@ -1,0 +1,142 @@
+-- What holds where no condition of a call does: exactly then its step is taken. Assumes nothing.
+use mathlib.Core.Path.{_≡_}
+use mathlib.Core.Bool.{not, true}
+use mathlib.Core.List.{[], _∷_}
+use mathlib.Core.Logic.{_≢_, _↔_, Iff·trans}
+use Prim.Native.Nat.{ℕ, _+_, _≤_, _<_}
+use native.Mathlib.Omega.{arith}
+use lib.Dec.{eqb}
+use borrow.Author.Tests.{ne-eqb, lt-leb}
+use Rattle.clock.specs.Map.{any}
+use Rattle.clock.proofs.Maps.{choice}
+use Rattle.clock.proofs.Says.{says-itself, says-eq, Denies, denies-itself, denies-eq, denies-le, denies-lt, denies-not, denies-or, denies-any}
+use Rattle.layout.specs.State.{State, lastClock}
+use Rattle.rules.specs.Sound.{sound, Sound}
+use Rattle.rules.specs.Steps.{waiting}
+use Rattle.rules.specs.Refusals.{Refusals, first, full, missing, open-refusals, put-refusals, get-refusals, deliver-refusals, drain-refusals}
+use Rattle.laws.proofs.Given.{Gives, end, here, past}
+use Rattle.laws.proofs.Tested.{range-says, sound-tested}
+
+pub record OpenReady (n k : ℕ) : Type 0 where
+  pub sites : (1 ≤ n) × (n ≤ 8)
+  pub keys : (1 ≤ k) × (k ≤ 64)
+
+pub record PutReady (S : State) (s x : ℕ) : Type 0 where
+  pub sound : Sound S
+  pub site : s < S .n
+  pub key : x < S .k
+  pub clock : S .applied s s ≢ lastClock
+  pub room : (t : ℕ) → t < S .n → S .applied s s < S .applied t s + 16
+
+pub record GetReady (S : State) (s x : ℕ) : Type 0 where
+  pub sound : Sound S
+  pub site : s < S .n
+  pub key : x < S .k
+
+pub record DeliverReady (S : State) (s o : ℕ) : Type 0 where
+  pub sound : Sound S
+  pub site : s < S .n
+  pub origin : o < S .n
+  pub others : s ≢ o
+  pub behind : S .applied s o ≢ S .applied o o
+  pub causes : (j : ℕ) → j < 8 → waiting S s o .depends j ≤ S .applied s j
+
+pub record DrainReady (S : State) (s : ℕ) : Type 0 where
+  pub sound : Sound S
+  pub site : s < S .n
+
+pub open-ready : (n k : ℕ) → (first (open-refusals n k) ≡ 0) ↔ OpenReady n k
+unfolding open-refusals
+open-ready n k =
+    Iff·trans
+    (past 3 (omega arith) (denies-not (range-says n k)) end .exactly)
+    ((λ r. record { sites = r .0 .0 .0; keys = (r .0 .0 .1, r .0 .1) }), λ r. (((r .sites, r .keys .0), r .keys .1), tt))
+
+module _ (S : State) where
+  past-sound : {Q : Type 0} {ps : Refusals} {e : ℕ} → 2 ≢ e → Gives ps e Q → Gives ((2, not (sound S)) ∷ ps) e (Sound S × Q)
+  past-sound h = past 2 h (denies-not (sound-tested S))
+
+  -- 8 is refused exactly where the new clock would have no place
+  pub full-denies : (s : ℕ) → Sound S → s < S .n → Denies (full S s) ((t : ℕ) → t < S .n → S .applied s s < S .applied t s + 16)
+  unfolding full
+  full-denies s D h = (
+    (λ e t l. omega (arith, D .room t s l h, lags .0 e t l)),
+    λ f. lags .1 (λ t l. omega (arith, f t l)),
+  )
+    where
+      lags : Denies (full S s) ((t : ℕ) → t < S .n → S .applied t s + 16 ≢ S .applied s s)
+      lags = denies-any _ (λ t. S .applied t s + 16 ≢ S .applied s s) (S .n) (λ t. denies-eq _ _)
+
+  pub put-ready : (s x : ℕ) → (first (put-refusals S s x) ≡ 0) ↔ PutReady S s x
+  unfolding put-refusals
+  put-ready s x =
+      Iff·trans
+      (past-sound (omega arith)
+      (past 4 (omega arith) (denies-le (S .n) s)
+      (past 6 (omega arith) (denies-le (S .k) x)
+      (past 7 (omega arith) (denies-eq (S .applied s s) lastClock)
+      (past 8 (omega arith) (denies-itself (full S s)) end)))) .exactly) (
+        (λ r.
+            record {
+              sound = r .0;
+              site = r .1 .0;
+              key = r .1 .1 .0;
+              clock = r .1 .1 .1 .0;
+              room = full-denies s (r .0) (r .1 .0) .0 (r .1 .1 .1 .1 .0);
+            }),
+        λ r. (r .sound, (r .site, (r .key, (r .clock, (full-denies s (r .sound) (r .site) .1 (r .room), tt))))),
+      )
+
+  pub get-ready : (s x : ℕ) → (first (get-refusals S s x) ≡ 0) ↔ GetReady S s x
+  unfolding get-refusals
+  get-ready s x =
+      Iff·trans
+      (past-sound (omega arith) (past 4 (omega arith) (denies-le (S .n) s) (past 6 (omega arith) (denies-le (S .k) x) end)) .exactly)
+      ((λ r. record { sound = r .0; site = r .1 .0; key = r .1 .1 .0 }), λ r. (r .sound, (r .site, (r .key, tt))))
+
+  pub deliver-ready : (s o : ℕ) → (first (deliver-refusals S s o) ≡ 0) ↔ DeliverReady S s o
+  unfolding deliver-refusals
+  deliver-ready s o =
+      Iff·trans
+      (past-sound (omega arith)
+      (past 4 (omega arith) (denies-or (denies-le (S .n) s) (denies-le (S .n) o))
+      (past 5 (omega arith) (denies-eq s o)
+      (past 9 (omega arith) (denies-eq (S .applied s o) (S .applied o o))
+      (past 10 (omega arith) (denies-any (missing S s o) (λ j. waiting S s o .depends j ≤ S .applied s j) 8 (λ j. denies-lt _ _)) end)))) .exactly) (
+        (λ r.
+            record { sound = r .0; site = r .1 .0 .0; origin = r .1 .0 .1; others = r .1 .1 .0; behind = r .1 .1 .1 .0; causes = r .1 .1 .1 .1 .0 }),
+        λ r. (r .sound, ((r .site, r .origin), (r .others, (r .behind, (r .causes, tt))))),
+      )
+
+  -- of a sound table and two of its sites only 9 and 10 are left to ask
+  pub deliver-asks : (s o : ℕ) → Sound S → s < S .n → o < S .n → s ≢ o
+      → first (deliver-refusals S s o) ≡ first ((9, eqb (S .applied s o) (S .applied o o)) ∷ (10, any 8 (missing S s o)) ∷ [])
+  unfolding deliver-refusals
+  deliver-asks s o D h l e = rw (sound-tested S .1 D, lt-leb (S .n) s h, lt-leb (S .n) o l, ne-eqb s o e)
+
+  -- 9: no update of o is left for s
+  pub deliver-nine : (s o : ℕ) → (first (deliver-refusals S s o) ≡ 9) ↔ (Sound S × ((s < S .n × o < S .n) × (s ≢ o × S .applied s o ≡ S .applied o o)))
+  unfolding deliver-refusals
+  deliver-nine s o =
+      past-sound (omega arith)
+      (past 4 (omega arith) (denies-or (denies-le (S .n) s) (denies-le (S .n) o))
+      (past 5 (omega arith) (denies-eq s o)
+      (here 9 ((10, any 8 (missing S s o)) ∷ []) (choice (any 8 (missing S s o)) (λ z. z ≢ 9) (λ e. omega arith) (λ e. omega arith)) (says-eq (S .applied s o) (S .applied o o))))) .exactly
+
+  -- 10: one is, and a cause of it is missing
+  pub deliver-ten : (s o : ℕ)
+      → (first (deliver-refusals S s o) ≡ 10) ↔ (Sound S × ((s < S .n × o < S .n) × (s ≢ o × (S .applied s o ≢ S .applied o o × any 8 (missing S s o) ≡ true))))
+  unfolding deliver-refusals
+  deliver-ten s o =
+      past-sound (omega arith)
+      (past 4 (omega arith) (denies-or (denies-le (S .n) s) (denies-le (S .n) o))
+      (past 5 (omega arith) (denies-eq s o)
+      (past 9 (omega arith) (denies-eq (S .applied s o) (S .applied o o))
+      (here 10 [] (omega arith) (says-itself (any 8 (missing S s o))))))) .exactly
+
+  pub drain-ready : (s : ℕ) → (first (drain-refusals S s) ≡ 0) ↔ DrainReady S s
+  unfolding drain-refusals
+  drain-ready s =
+      Iff·trans
+      (past-sound (omega arith) (past 4 (omega arith) (denies-le (S .n) s) end) .exactly)
+      ((λ r. record { sound = r .0; site = r .1 .0 }), λ r. (r .sound, (r .site, tt)))

@@ -1,0 +1,154 @@
+-- What is proved of the rules, a sentence of document 01 each; the proofs are in proofs/. Assumes nothing.
+use mathlib.Core.Path.{_≡_}
+use mathlib.Core.Bool.{Bool, true, false}
+use mathlib.Core.List.{List, [], _∷_, _++_, map}
+use mathlib.Core.Logic.{_≢_, _↔_}
+use Prim.Native.Nat.{ℕ, zero, suc, _+_, _*_, _-_, _≤_, _<_}
+use lib.ListN.{length}
+use Rattle.clock.specs.Map.{_⟨_≔_⟩}
+use Rattle.layout.specs.State.{State}
+use Rattle.rules.specs.Sound.{sound, Sound}
+use Rattle.rules.specs.Steps.{Numbers, refused, waiting}
+use Rattle.rules.specs.Refusals.{Refusals, missing}
+use Rattle.rules.specs.Drain.{drained, drain}
+use Rattle.rules.specs.Calls.{Call, Open, Put, Get, Deliver, Drain, refusals, run}
+
+-- ## Sound tables
+
+-- "A table is sound when all of these hold": the test that the calls make decides exactly that
+abbrev pub SoundTested : Type 0
+SoundTested = (S : State) → (sound S ≡ true) ↔ Sound S
+
+-- "Every accepted call leaves a sound table": no call but open is accepted on another
+abbrev pub AcceptedSound : Type 0
+AcceptedSound = (S : State) (c : Call) → run S c .answer .code ≡ 0 → Sound (run S c .after)
+
+-- ".. and so does a drain that answers 11", and every refusal
+abbrev pub KeepsSound : Type 0
+KeepsSound = (S : State) (c : Call) → Sound S → Sound (run S c .after)
+
+-- "The table keeps all bytes, except under 11"
+abbrev pub RefusedKeeps : Type 0
+RefusedKeeps = (S : State) (c : Call) → run S c .answer .code ≢ 0 → run S c .answer .code ≢ 11 → run S c .after ≡ S
+
+-- ## "given exactly when"
+
+-- the condition listed for a code; a code that is not listed has none
+abbrev pub condition : Refusals → (code : ℕ) → Bool
+condition [] = λ e. false
+condition (p ∷ ps) = condition ps ⟨ p .0 ≔ p .1 ⟩
+
+-- its condition holds, and that of no lower code does: "the lowest number is answered"
+pub record Given (ps : Refusals) (e : ℕ) : Type 0 where
+  pub holds : condition ps e ≡ true
+  pub lowest : (c : ℕ) → c < e → condition ps c ≡ false
+
+-- no condition holds
+abbrev pub Clear : Refusals → Type 0
+Clear ps = (e : ℕ) → condition ps e ≡ false
+
+-- the codes with a condition, for each call
+abbrev pub codes : Call → List ℕ
+codes (Open n k) = 3 ∷ []
+codes (Put s x v) = 2 ∷ 4 ∷ 6 ∷ 7 ∷ 8 ∷ []
+codes (Get s x) = 2 ∷ 4 ∷ 6 ∷ []
+codes (Deliver s o) = 2 ∷ 4 ∷ 5 ∷ 9 ∷ 10 ∷ []
+codes (Drain s b) = 2 ∷ 4 ∷ []
+
+abbrev pub CodesListed : Type 0
+CodesListed = (S : State) (c : Call) → map (λ (p : ℕ × Bool). p .0) (refusals S c) ≡ codes c
+
+-- every code but 0 and 11 is answered exactly when it is given
+abbrev pub GivenExactly : Type 0
+GivenExactly = (S : State) (c : Call) (e : ℕ) → e ≢ 0 → e ≢ 11 → (run S c .answer .code ≡ e) ↔ Given (refusals S c) e
+
+-- a drain with a budget that is always enough makes these tries
+abbrev pub needed : State → (s : ℕ) → ℕ
+needed S s = drain S s 903 .answer .value
+
+-- the budget, where the call has one, is enough; or it is spent when a try is due
+abbrev pub Enough : State → Call → Type 0
+Enough S (Open n k) = Unit {0}
+Enough S (Put s x v) = Unit {0}
+Enough S (Get s x) = Unit {0}
+Enough S (Deliver s o) = Unit {0}
+Enough S (Drain s b) = needed S s ≤ b
+
+abbrev pub Spent : State → Call → Type 0
+Spent S (Open n k) = ⊥
+Spent S (Put s x v) = ⊥
+Spent S (Get s x) = ⊥
+Spent S (Deliver s o) = ⊥
+Spent S (Drain s b) = b < needed S s
+
+-- 0 is answered exactly when no condition holds and the budget is enough
+abbrev pub AcceptedExactly : Type 0
+AcceptedExactly = (S : State) (c : Call) → (run S c .answer .code ≡ 0) ↔ (Clear (refusals S c) × Enough S c)
+
+-- 11: "drain stopped by its budget"
+abbrev pub SpentExactly : Type 0
+SpentExactly = (S : State) (c : Call) → (run S c .answer .code ≡ 11) ↔ (Clear (refusals S c) × Spent S c)
+
+-- "In every refused answer the other numbers are 0, except for 10 and 11"
+abbrev pub RefusedZeros : Type 0
+RefusedZeros = (S : State) (c : Call) (e : ℕ) → e ≢ 0 → e ≢ 10 → e ≢ 11 → run S c .answer .code ≡ e → run S c .answer ≡ refused e
+
+-- 10: "site and clock name the lowest failing column and its number in the update's vector"
+pub record LowestMissing (S : State) (s o : ℕ) (a : Numbers) : Type 0 where
+  pub column : a .site < 8
+  pub fails : missing S s o (a .site) ≡ true
+  pub lowest : (j : ℕ) → j < a .site → missing S s o j ≡ false
+  pub clock : a .clock ≡ waiting S s o .depends (a .site)
+  pub others : (a .key ≡ 0) × (a .value ≡ 0)
+
+abbrev pub MissingNamed : Type 0
+MissingNamed = (S : State) (s o : ℕ) → run S (Deliver s o) .answer .code ≡ 10 → LowestMissing S s o (run S (Deliver s o) .answer)
+
+-- ## Drain
+
+-- the sum of f at the numbers below m
+unfoldable pub sum : ℕ → (ℕ → ℕ) → ℕ
+sum zero f = 0
+sum (suc m) f = sum m f + f m
+
+-- the updates undelivered at s
+unfoldable pub pending : State → (s : ℕ) → ℕ
+pending S s = sum (S .n) (λ o. S .applied o o - S .applied s o)
+
+-- accepted deliveries to s that lead from S to a state, with their answers, the newest first
+pub data Delivers (s : ℕ) (S : State) : List Numbers → State → Type 0 where
+  start : Delivers s S [] S
+  one-more : {made : List Numbers} {R : State} → Delivers s S made R → (o : ℕ) → run R (Deliver s o) .answer .code ≡ 0
+      → Delivers s S (run R (Deliver s o) .answer ∷ made) (run R (Deliver s o) .after)
+
+-- a drain is its deliveries, and "its answer holds the deliveries made"
+abbrev pub DrainDelivers : Type 0
+DrainDelivers = (S : State) (s b : ℕ) → Delivers s S (drained S s b .made) (drain S s b .after) × (drain S s b .answer .clock ≡ length (drained S s b .made))
+
+-- "the deliveries made, which is the rise in the sum of the applied row of s", over eight columns or over the n in use
+abbrev pub DrainRises : Type 0
+DrainRises = (S : State) (s b m : ℕ) → S .n ≤ m → sum m (drain S s b .after .applied s) ≡ sum m (S .applied s) + drain S s b .answer .clock
+
+-- "It ends after a pass that delivered nothing": then every delivery is refused
+abbrev pub DrainEnds : Type 0
+DrainEnds = (S : State) (s b : ℕ) → drain S s b .answer .code ≡ 0 → (o : ℕ) → run (drain S s b .after) (Deliver s o) .answer .code ≢ 0
+
+-- "When a try is due and the budget is spent it stops with 11"
+abbrev pub TriesWithin : Type 0
+TriesWithin = (S : State) (s b : ℕ) → (drain S s b .answer .value ≤ b) × (drain S s b .answer .code ≡ 11 → drain S s b .answer .value ≡ b)
+
+-- "With P updates undelivered at the start there are at most P + (n - 1)(P + 1) tries"
+abbrev pub TriesBounded : Type 0
+TriesBounded = (S : State) (s b : ℕ) → s < S .n → drain S s b .answer .value ≤ pending S s + (S .n - 1) * (pending S s + 1)
+
+-- "P is at most 112"
+abbrev pub PendingBounded : Type 0
+PendingBounded = (S : State) → Sound S → (s : ℕ) → s < S .n → pending S s ≤ 112
+
+-- "so a budget of 903 is always enough"
+abbrev pub BudgetEnough : Type 0
+BudgetEnough = (S : State) → Sound S → (s b : ℕ) → s < S .n → 903 ≤ b → drain S s b .answer .code ≡ 0
+
+-- with a smaller budget the deliveries are the first of those with a larger one
+abbrev pub DrainPrefix : Type 0
+DrainPrefix = (S : State) (s b b′ : ℕ) → b ≤ b′ → (more : List Numbers) × (drained S s b′ .made ≡ more ++ drained S s b .made)
