@@ -3,12 +3,13 @@
 # make lib: the proved archive for this machine and its header, build/MACHINE/libforkcanyon.a and build/forkcanyon.h
 # make install PREFIX=dir: both there, with a pkg-config file
 # make story: a backup scan seen from far away, here and in a plain replica
+# make policy: a month of a policy that moves cold files, here and with scans that make them look fresh
 # make play FILE=x.sched: a schedule written as text, beside its answers
 # make draw FILE=x.sched: the same as a picture, build/x.svg
 # make soak SECONDS=n: random schedules and random calls, half of the time each
 # make bench: the library against the second program, in turns
 # make times: the proving seconds of each crate, from nothing
-.PHONY: help test run lib install story play draw soak bench times
+.PHONY: help test run lib install story policy play draw soak bench times
 
 PREFIX ?= /usr/local
 SECONDS ?= 600
@@ -49,6 +50,10 @@ install: lib
 story: lib
 	@$(CC) $(STRICT) $(CFLAGS) -Ibuild examples/backup_scan.c $(LIBRARY) -o build/backup_scan
 	@build/backup_scan
+
+policy: lib
+	@$(CC) $(STRICT) $(CFLAGS) -Ibuild examples/cold_policy.c $(LIBRARY) -o build/cold_policy
+	@build/cold_policy
 
 play: target/bin/run_schedule
 	@tools/sched play "$(FILE)"

@@ -33,11 +33,14 @@ struct starts {
 static double time_scene(const struct library *library, const struct scene *scene, const struct starts *starts,
                          unsigned turn)
 {
-    static uint8_t tables[MOST_TABLES][FC_TABLE_BYTES], reply[FC_REPLY_BYTES];
+    static uint8_t tables[MOST_TABLES][FC_TABLE_BYTES], list[FC_LIST_BYTES], reply[FC_REPLY_BYTES];
+    struct buffers lent = {{NULL, sizeof tables[0]}, {list, sizeof list}, {reply, sizeof reply}};
     memcpy(tables, starts->tables, starts->count * sizeof tables[0]);
     double begun = now_ns();
-    for (unsigned at = 0; at < scene->count; at++)
-        make_call(library, &scene->calls[at], tables[(at + turn) % starts->count], sizeof tables[0], reply, sizeof reply);
+    for (unsigned at = 0; at < scene->count; at++) {
+        lent.table.bytes = tables[(at + turn) % starts->count];
+        make_call(library, &scene->calls[at], &lent);
+    }
     return (now_ns() - begun) / scene->count;
 }
 
@@ -82,7 +85,7 @@ int main(int argc, char **argv)
             struct scene scene = make_scene(which, filling, sites, keys);
             struct cost cost = cost_of(&scene, &starts, turns);
             fprintf(figures, "%s\t%u\t%u\t%s\t%d\t%.1f\t%.1f\n", filling_names[filling], sites, keys,
-                    scene_names[which], which >= FIRST_MIX, cost.ours, cost.twins);
+                    scene_name(which), which >= FIRST_MIX, cost.ours, cost.twins);
         }
     }
     return fclose(figures) == 0 ? 0 : 2;

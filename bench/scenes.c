@@ -1,5 +1,6 @@
 #include "scenes.h"
 
+#include "touches.h"
 #include "traffic.h"
 
 #include <stdio.h>
@@ -7,18 +8,24 @@
 
 enum { ALONE = FC_PLACES / 2, ROUNDS = 6 };
 
-const char *const scene_names[SCENES] = {"open",  "put",    "get",   "deliver", "drain",
-                                         "even",  "reads", "writes", "links"};
-
 const char *const filling_names[FILLINGS] = {"fresh", "half", "full"};
 
 /* How often each call comes up in a mix. */
-static const unsigned mixes[SCENES - FIRST_MIX][KINDS] = {
-    {[PUT] = 3, [GET] = 3, [DELIVER] = 3, [DRAIN] = 1},
-    {[PUT] = 1, [GET] = 16, [DELIVER] = 2, [DRAIN] = 1},
-    {[PUT] = 10, [GET] = 2, [DELIVER] = 4, [DRAIN] = 4},
-    {[PUT] = 3, [GET] = 2, [DELIVER] = 12, [DRAIN] = 3},
+static const struct {
+    const char *name;
+    unsigned weights[KINDS];
+} mixes[MIXES] = {
+    {"even", {[PUT] = 3, [GET] = 3, [DELIVER] = 3, [DRAIN] = 1}},
+    {"reads", {[PUT] = 1, [GET] = 16, [DELIVER] = 2, [DRAIN] = 1}},
+    {"writes", {[PUT] = 10, [GET] = 2, [DELIVER] = 4, [DRAIN] = 4}},
+    {"links", {[PUT] = 3, [GET] = 2, [DELIVER] = 12, [DRAIN] = 3}},
+    {"policy", {[TOUCH] = 10, [COLD] = 2, [DELIVER] = 4, [DRAIN] = 4}},
 };
+
+const char *scene_name(unsigned which)
+{
+    return which < FIRST_MIX ? kind_names[which] : mixes[which - FIRST_MIX].name;
+}
 
 static void must(uint8_t *table, struct call call)
 {
@@ -32,32 +39,32 @@ static void must(uint8_t *table, struct call call)
 static void drain_all(uint8_t *table, unsigned sites)
 {
     for (unsigned site = 0; site < sites; site++)
-        must(table, (struct call){DRAIN, site, FC_ENOUGH, 0});
+        must(table, (struct call){DRAIN, {site, FC_ENOUGH}});
 }
 
 /* Each site in its turn writes every key, and all sites read it: vectors fill up. */
-static void fill(uint8_t *table, unsigned sites, unsigned keys)
+static void fill(uint8_t *table, unsigned sites, unsigned keys, struct rng *rng)
 {
     for (unsigned turn = 0; turn < ROUNDS * sites; turn++) {
         for (unsigned key = 0; key < keys; key++) {
-            must(table, (struct call){PUT, turn % sites, key, turn});
+            must(table, (struct call){PUT, {turn % sites, key, some_value(rng)}});
             drain_all(table, sites);
         }
         for (unsigned key = 0; key < keys; key++)
             for (unsigned site = 0; site < sites; site++)
-                must(table, (struct call){GET, site, key, 0});
+                must(table, (struct call){GET, {site, key}});
     }
     for (unsigned site = 0; site < sites; site++)
         for (unsigned times = 0; times < ALONE; times++)
-            must(table, (struct call){PUT, site, (site + times) % keys, times});
+            must(table, (struct call){PUT, {site, (site + times) % keys, some_value(rng)}});
 }
 
 static void half_fill(uint8_t *table, unsigned sites, unsigned keys, struct rng *rng)
 {
     for (unsigned times = 0; 2 * times < keys; times++) {
-        must(table, (struct call){PUT, rng_below(rng, sites), rng_below(rng, keys), times});
+        must(table, (struct call){PUT, {rng_below(rng, sites), rng_below(rng, keys), some_value(rng)}});
         drain_all(table, sites);
-        must(table, (struct call){GET, rng_below(rng, sites), rng_below(rng, keys), 0});
+        must(table, (struct call){GET, {rng_below(rng, sites), rng_below(rng, keys)}});
     }
 }
 
@@ -66,9 +73,9 @@ unsigned make_starts(uint8_t (*tables)[FC_TABLE_BYTES], enum filling filling, un
     unsigned count = filling == HALF ? MOST_TABLES : 1;
     struct rng rng = {sites * 100 + keys};
     for (unsigned at = 0; at < count; at++) {
-        must(tables[at], (struct call){OPEN, sites, keys, 0});
+        must(tables[at], (struct call){OPEN, {sites, keys}});
         if (filling == FULL)
-            fill(tables[at], sites, keys);
+            fill(tables[at], sites, keys, &rng);
         if (filling == HALF)
             half_fill(tables[at], sites, keys, &rng);
     }
@@ -81,11 +88,13 @@ static struct scene alone(enum kind kind, enum filling filling, unsigned sites, 
     struct scene scene = {.count = filling == HALF ? SCENE_CALLS : ALONE};
     for (unsigned at = 0; at < scene.count; at++) {
         const struct call kinds[KINDS] = {
-            [OPEN] = {OPEN, sites, keys, 0},
-            [PUT] = {PUT, 0, at % keys, at},
-            [GET] = {GET, at % sites, (at * 7) % keys, 0},
-            [DELIVER] = {DELIVER, sites - 1, 0, 0},
-            [DRAIN] = {DRAIN, at % sites, FC_ENOUGH, 0},
+            [OPEN] = {OPEN, {sites, keys}},
+            [PUT] = {PUT, {0, at % keys, at}},
+            [GET] = {GET, {at % sites, (at * 7) % keys}},
+            [DELIVER] = {DELIVER, {sites - 1, 0}},
+            [DRAIN] = {DRAIN, {at % sites, FC_ENOUGH}},
+            [TOUCH] = {TOUCH, {0, at % keys, at, at % 4, 1}},
+            [COLD] = {COLD, {at % sites, at * 100, 24}},
         };
         scene.calls[at] = kinds[kind];
     }
@@ -100,11 +109,11 @@ struct scene make_scene(unsigned which, enum filling filling, unsigned sites, un
     struct rng rng = {which + 1};
     struct traffic traffic = some_traffic(&rng, sites, keys, 0);
     for (int kind = 0; kind < KINDS; kind++)
-        traffic.weights[kind] = mixes[which - FIRST_MIX][kind];
+        traffic.weights[kind] = mixes[which - FIRST_MIX].weights[kind];
     for (unsigned at = 0; at < SCENE_CALLS; at++) {
         scene.calls[at] = some_call(&rng, &traffic);
         if (scene.calls[at].kind == DRAIN)
-            scene.calls[at].second = FC_ENOUGH;
+            scene.calls[at].numbers[1] = FC_ENOUGH;
     }
     return scene;
 }

@@ -4,7 +4,7 @@
 
 #include "calls.h"
 
-enum { SCENES = 9, FIRST_MIX = 5, SCENE_CALLS = 240 };
+enum { MIXES = 5, FIRST_MIX = KINDS, SCENES = FIRST_MIX + MIXES, SCENE_CALLS = 240 };
 
 /* Fresh: just opened. Full: every key written at every site, each origin with half of its places under way.
    Half: many tables, called in turns, with about half of the keys written, not the same ones in each. */
@@ -16,8 +16,8 @@ struct scene {
     unsigned count;
 };
 
-/* The five calls alone, then the mixes. */
-extern const char *const scene_names[SCENES];
+/* Each call alone, then the mixes. */
+const char *scene_name(unsigned which);
 
 extern const char *const filling_names[FILLINGS];
 

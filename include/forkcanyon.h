@@ -22,11 +22,15 @@
  *     fc_deliver(1, 0, table, sizeof table, reply, sizeof reply);
  *     if (fc_get(1, 1, table, sizeof table, reply, sizeof reply) == FC_OK) use(fc_read(reply).value);
  *
+ * A value may be anything to fc_put and fc_get. fc_touch writes touch records, values that say when a
+ * file was last used, and fc_cold lists the keys whose records are old; see TOUCH RECORDS below.
+ *
  * WHAT THE CALLER OWES
  *
- * - table points to table_len bytes and reply to reply_len bytes, lent for the length of the call.
- * - The two do not overlap.
- * - Neither pointer is NULL; a length of 0 may come with any pointer that is not NULL.
+ * - table points to table_len bytes, reply to reply_len bytes and the list of fc_cold to list_len
+ *   bytes, lent for the length of the call.
+ * - No two of them overlap.
+ * - No pointer is NULL; a length of 0 may come with any pointer that is not NULL.
  *
  * Nothing else: any numbers, any lengths and any bytes in the buffers are met with an answer.
  *
@@ -35,9 +39,11 @@
  * - It returns the code, and writes the whole reply: the code again in its first byte, then the other
  *   numbers of the answer. See fc_read() below for where they stand.
  * - A refused call (any code but FC_OK) leaves every byte of the table as it was, FC_BUDGET alone
- *   excepted; the other numbers of its reply are 0, FC_WAITS and FC_BUDGET excepted.
- * - If reply_len is not FC_REPLY_BYTES, it writes neither buffer and returns FC_SIZE.
- * - Where several refusals apply, the one with the lowest number is answered.
+ *   excepted, and every byte of the list; the other numbers of its reply are 0, FC_WAITS and
+ *   FC_BUDGET excepted.
+ * - If reply_len is not FC_REPLY_BYTES, it writes no buffer and returns FC_SIZE, or FC_RANGE where
+ *   that applies too.
+ * - Where several refusals apply, the one that is asked first is answered, see fc_code.
  * - Sites, origins and keys count from 0. A number too large for its place in the table, up to
  *   2^64 - 1, is refused as out of range; none is ever cut short.
  */
@@ -53,6 +59,7 @@ extern "C" {
 
 #define FC_TABLE_BYTES 15620 /* a table buffer, exactly */
 #define FC_REPLY_BYTES 12    /* a reply buffer, exactly */
+#define FC_LIST_BYTES 64     /* the list of fc_cold, exactly: a byte for each key there can be */
 #define FC_SITES 8           /* the most sites of a table */
 #define FC_KEYS 64           /* the most keys of a table */
 #define FC_PLACES 16         /* how many updates of one origin may be under way */
@@ -60,8 +67,13 @@ extern "C" {
 #define FC_ENOUGH 903        /* a budget with which fc_drain never answers FC_BUDGET */
 
 /*
- * The codes, in the order in which they are asked. applied(s, o) is how many updates of origin o
- * site s has applied; applied(s, s) is how many puts s has made. n and k are the table's counts.
+ * The codes, by number. They are asked in this order, each call leaving out those it has not:
+ *
+ *     FC_UNUSED, FC_RANGE, FC_SIZE, FC_UNSOUND, FC_COUNTS, FC_SITE, FC_SAME, FC_KEY, FC_RECORD,
+ *     FC_SPENT, FC_ROOM, FC_NONE, FC_WAITS, FC_BUDGET
+ *
+ * applied(s, o) is how many updates of origin o site s has applied; applied(s, s) is how many puts s
+ * has made. n and k are the table's counts.
  */
 enum fc_code {
     FC_OK = 0,      /* accepted */
@@ -71,12 +83,14 @@ enum fc_code {
     FC_SITE = 4,    /* a named site or origin is not below n */
     FC_SAME = 5,    /* fc_deliver: site and origin are the same */
     FC_KEY = 6,     /* key is not below k */
-    FC_SPENT = 7,   /* fc_put: applied(site, site) is 65,535; the site can put no more */
-    FC_ROOM = 8,    /* fc_put: some site has applied 16 fewer of this site's puts than it has made */
+    FC_SPENT = 7,   /* a put or touch: applied(site, site) is 65,535; the site can put no more */
+    FC_ROOM = 8,    /* a put or touch: some site has applied 16 fewer of this site's puts than it has made */
     FC_NONE = 9,    /* fc_deliver: applied(site, origin) equals applied(origin, origin) */
     FC_WAITS = 10,  /* fc_deliver: the site lacks a cause of the update; the reply names it */
     FC_BUDGET = 11, /* fc_drain: the budget was spent with a try due; what was delivered stays */
-    FC_UNUSED = 12  /* only in a schedule: a step with a field set that it does not use */
+    FC_UNUSED = 12, /* only in a schedule: a step with a field set that it does not use */
+    FC_RECORD = 13, /* fc_touch, by the scan or by migration: the key has no touch record, so no hour to keep */
+    FC_RANGE = 14   /* fc_cold, fc_touch: a number of the policy's, or list_len, is out of range */
 };
 
 /*
@@ -85,7 +99,7 @@ enum fc_code {
  * FC_OK: the other numbers of the reply are 0. Refusals: FC_SIZE, FC_COUNTS.
  *
  * A table that was opened and then changed only by these calls is sound. Every call but fc_open asks
- * for these facts first, so a damaged table is refused with FC_UNSOUND if one of them fails:
+ * for these facts before anything else of the table, so a damaged table is refused with FC_UNSOUND if one of them fails:
  * - n is 1 to 8, k is 1 to 64, and bytes 2 and 3 are 0;
  * - for sites s and o below n, applied(s, o) is at most applied(o, o), and at most 16 below it;
  * - each entry of a site s below n and a key below k is all 0 (never written), or names an origin
@@ -148,7 +162,92 @@ uint32_t fc_deliver(uint64_t site, uint64_t origin,
 uint32_t fc_drain(uint64_t site, uint64_t budget,
                   uint8_t *table, size_t table_len, uint8_t *reply, size_t reply_len);
 
-/* The five numbers of a reply. For fc_drain, clock holds the deliveries and value the tries. */
+/*
+ * TOUCH RECORDS
+ *
+ * A touch record is a value that says when a file was last used, by whom it was last touched and on
+ * which tier it is: hour (16 bits), toucher (3), tier (2) and eleven zero bits, from the top. Values
+ * of any other form are malformed: eleven low bits that are not all zero, or a toucher above 3.
+ *
+ * Hours are counted from wherever the caller likes, and the count runs round after 65,535. So the age
+ * of a record is now minus its hour, modulo 65,536. Above 32,767 hours, three years and eight months,
+ * it counts as a clock ahead: as a record of an hour to come.
+ */
+
+/* Who touches a file. */
+enum fc_touched_by {
+    FC_BY_USER = 0,
+    FC_BY_SCAN = 1,      /* the backup scan: keeps the hour */
+    FC_BY_MIGRATION = 2, /* the policy, when it moves a file: keeps the hour */
+    FC_BY_RESTORE = 3
+};
+
+/*
+ * Gets key at site and puts a touch record of this toucher and tier there: with the hour of the record
+ * it got for FC_BY_SCAN and FC_BY_MIGRATION, with now for FC_BY_USER and FC_BY_RESTORE. So a scan or a
+ * move does not make a file look used: no key's age changes at the site.
+ *
+ * FC_OK: the reply holds key, site, the put's clock and the record as value; the table is as after
+ * fc_get and fc_put. Refused, the get has not been made either.
+ * FC_RECORD: the toucher is FC_BY_SCAN or FC_BY_MIGRATION, and the key was never written at this site
+ * or its value is malformed.
+ * FC_RANGE: toucher or tier is above 3, or now is above 65,535.
+ * Refusals: FC_RANGE, FC_SIZE, FC_UNSOUND, FC_SITE, FC_KEY, FC_RECORD, FC_SPENT, FC_ROOM.
+ *
+ * As with any put, where two sites write one key and neither has heard of the other, each ends with
+ * the one that came to it last, even if its hour is the older. If a key is touched at one site alone,
+ * every site has the newest record of it that it has heard of.
+ */
+uint32_t fc_touch(uint64_t site, uint64_t key, uint64_t now, uint64_t toucher, uint64_t tier,
+                  uint8_t *table, size_t table_len, uint8_t *reply, size_t reply_len);
+
+/*
+ * Lists the keys that are cold at site: those with a touch record whose age is threshold to 32,767.
+ * Keys come ascending, a byte each; the rest of the list is 0, so read as many as the reply says. Keys
+ * never written at this site are left out.
+ *
+ * FC_OK: the reply holds how many keys are listed (as key), how many have a clock ahead (as site) and
+ * how many a malformed value (as clock); no key counts twice. Value is 0.
+ * FC_RANGE: threshold is not 1 to 32,767, now is above 65,535, or list_len is not FC_LIST_BYTES.
+ * Refusals: FC_RANGE, FC_SIZE, FC_UNSOUND, FC_SITE; the list then keeps its bytes.
+ *
+ * It gets every key, as fc_get does: later puts of the site depend on all that it has read.
+ */
+uint32_t fc_cold(uint64_t site, uint64_t now, uint64_t threshold,
+                 uint8_t *table, size_t table_len, uint8_t *list, size_t list_len,
+                 uint8_t *reply, size_t reply_len);
+
+/* The touch record of an hour, a toucher (fc_touched_by) and a tier from 0 to 3. */
+static inline uint32_t fc_touch_of(uint16_t hour, unsigned toucher, unsigned tier)
+{
+    return (uint32_t)hour << 16 | (uint32_t)(toucher & 7) << 13 | (uint32_t)(tier & 3) << 11;
+}
+
+/* Whether a value is a touch record. The three below mean nothing for other values. */
+static inline int fc_is_touch(uint32_t value)
+{
+    return (value & 0x87FF) == 0;
+}
+
+static inline uint16_t fc_hour(uint32_t value)
+{
+    return (uint16_t)(value >> 16);
+}
+
+static inline unsigned fc_toucher(uint32_t value)
+{
+    return value >> 13 & 7;
+}
+
+static inline unsigned fc_tier(uint32_t value)
+{
+    return value >> 11 & 3;
+}
+
+/*
+ * The five numbers of a reply. For fc_drain, clock holds the deliveries and value the tries; for
+ * fc_cold, key holds the keys listed, site the clocks ahead and clock the malformed values.
+ */
 struct fc_answer {
     uint8_t code;
     uint8_t key;

@@ -17,6 +17,7 @@ class Line(NamedTuple):
     value: int
 
 
+# Of what a schedule can answer: it has no touch and no cold list, so neither 13 nor 14.
 REFUSALS = {
     3: "sites or keys out of range",
     4: "no such site",

@@ -1,11 +1,19 @@
 #include "tables.h"
 
+#include "touches.h"
+
 #include <string.h>
 
 static void set_clock(uint8_t *table, size_t at, unsigned clock)
 {
     table[at] = (uint8_t)(clock >> 8);
     table[at + 1] = (uint8_t)clock;
+}
+
+static void set_value(uint8_t *table, size_t at, uint32_t value)
+{
+    for (size_t byte = 0; byte < 4; byte++)
+        table[at + byte] = (uint8_t)(value >> (24 - 8 * byte));
 }
 
 /* How many puts an origin has made: few, any number, or close to the end of the clocks. */
@@ -63,8 +71,9 @@ static void set_entries(struct rng *rng, uint8_t *table, size_t sites, size_t ke
                 memset(table + at, 0, RECORD);
                 continue;
             }
-            /* Its first, its last or any clock; the value and the zero byte are garbage already. */
+            /* Its first, its last or any clock; the zero byte is garbage already. */
             unsigned clock = rng_chance(rng, 30) ? applied : 1 + (unsigned)rng_below(rng, applied);
+            set_value(table, at, some_value(rng));
             table[at + RECORD_NAME] = (uint8_t)origin;
             set_clock(table, at + RECORD_CLOCK, clock);
             set_vector(rng, table, at, sites, 50);

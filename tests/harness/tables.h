@@ -21,6 +21,11 @@ static inline size_t applied_at(size_t site, size_t origin)
     return APPLIED + 2 * (FC_SITES * site + origin);
 }
 
+static inline size_t depends_at(size_t site, size_t column)
+{
+    return DEPENDS + 2 * (FC_SITES * site + column);
+}
+
 static inline size_t entry_at(size_t site, size_t key)
 {
     return STORE + RECORD * (FC_KEYS * site + key);
@@ -34,6 +39,11 @@ static inline size_t update_at(size_t origin, unsigned clock)
 static inline unsigned clock_at(const uint8_t *table, size_t at)
 {
     return (unsigned)table[at] << 8 | table[at + 1];
+}
+
+static inline uint32_t value_at(const uint8_t *table, size_t at)
+{
+    return (uint32_t)clock_at(table, at) << 16 | clock_at(table, at + 2);
 }
 
 /* A sound table that a run from opening need not reach: any lag, any clock, garbage where it is free. */

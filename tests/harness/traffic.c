@@ -1,14 +1,16 @@
 #include "traffic.h"
 
+#include "touches.h"
+
 /* Any size of number, some of which would look small if they were cut to 8, 16 or 32 bits. */
 static uint64_t wild_number(struct rng *rng)
 {
-    static const uint64_t sizes[] = {0, 1ull << 8, 1ull << 16, 1ull << 32, 1ull << 63};
+    static const uint64_t sizes[] = {0, 1ull << 8, 1ull << 15, 1ull << 16, 1ull << 32, 1ull << 63};
     switch (rng_below(rng, 4)) {
     case 0:
-        return sizes[rng_below(rng, 5)] + rng_below(rng, 10);
+        return sizes[rng_below(rng, 6)] + rng_below(rng, 10);
     case 1:
-        return sizes[rng_below(rng, 5)] - 1 - rng_below(rng, 3);
+        return sizes[rng_below(rng, 6)] - 1 - rng_below(rng, 3);
     case 2:
         return rng_below(rng, 70);
     default:
@@ -19,6 +21,11 @@ static uint64_t wild_number(struct rng *rng)
 static uint64_t name(struct rng *rng, const struct traffic *traffic, unsigned limit)
 {
     return rng_chance(rng, traffic->wild) ? wild_number(rng) : rng_below(rng, limit);
+}
+
+static uint64_t hour(struct rng *rng, const struct traffic *traffic)
+{
+    return rng_chance(rng, traffic->wild) ? wild_number(rng) : some_hour(rng);
 }
 
 /* Few tries, about as many as are always enough, or any number. */
@@ -68,20 +75,31 @@ struct call some_call(struct rng *rng, const struct traffic *traffic)
     while (left >= traffic->weights[call.kind])
         left -= traffic->weights[call.kind++];
 
-    call.first = call.kind == OPEN ? wild_number(rng) : name(rng, traffic, traffic->sites);
+    uint64_t *number = call.numbers;
+    number[0] = call.kind == OPEN ? wild_number(rng) : name(rng, traffic, traffic->sites);
     switch (call.kind) {
     case OPEN:
-        call.second = wild_number(rng);
+        number[1] = wild_number(rng);
         break;
     case DELIVER:
-        call.second = origin_for(rng, traffic, call.first);
+        number[1] = origin_for(rng, traffic, number[0]);
         break;
     case DRAIN:
-        call.second = budget(rng);
+        number[1] = budget(rng);
+        break;
+    case COLD:
+        number[1] = hour(rng, traffic);
+        number[2] = rng_chance(rng, traffic->wild) ? wild_number(rng) : some_threshold(rng);
+        break;
+    case TOUCH:
+        number[1] = name(rng, traffic, traffic->keys);
+        number[2] = hour(rng, traffic);
+        number[3] = name(rng, traffic, 4);
+        number[4] = name(rng, traffic, 4);
         break;
     default:
-        call.second = name(rng, traffic, traffic->keys);
-        call.value = call.kind == PUT ? (uint32_t)rng_bits(rng) : 0;
+        number[1] = name(rng, traffic, traffic->keys);
+        number[2] = call.kind == PUT ? some_value(rng) : 0;
     }
     return call;
 }

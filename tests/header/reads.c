@@ -1,4 +1,4 @@
-/* The header as C11 and as C++: every number of it, and the reader of a reply. */
+/* The header as C11 and as C++: every number of it, the reader of a reply, and touch records. */
 #include "forkcanyon.h"
 #include "forkcanyon.h"
 
@@ -30,9 +30,18 @@ static void expect(const char *what, unsigned long found, unsigned long wanted)
     EACH(FC_NONE, 9) \
     EACH(FC_WAITS, 10) \
     EACH(FC_BUDGET, 11) \
-    EACH(FC_UNUSED, 12)
+    EACH(FC_UNUSED, 12) \
+    EACH(FC_RECORD, 13) \
+    EACH(FC_RANGE, 14)
 
-/* The compiler refuses a switch that leaves out a code of the header. */
+/* Document 02's touchers. */
+#define TOUCHERS(EACH) \
+    EACH(FC_BY_USER, 0) \
+    EACH(FC_BY_SCAN, 1) \
+    EACH(FC_BY_MIGRATION, 2) \
+    EACH(FC_BY_RESTORE, 3)
+
+/* The compiler refuses a switch that leaves out a code or a toucher of the header. */
 #define CASE(name, number) \
     case name: \
         return number;
@@ -42,6 +51,35 @@ static unsigned number_of(enum fc_code code)
         CODES(CASE)
     }
     return 255;
+}
+
+static unsigned toucher_number(enum fc_touched_by toucher)
+{
+    switch (toucher) {
+        TOUCHERS(CASE)
+    }
+    return 255;
+}
+
+/* Every record comes back whole; no other value is one. */
+static void touch_records(void)
+{
+    static const uint16_t hours[] = {0, 1, 0x1234, 32767, 32768, 65535};
+    for (unsigned at = 0; at < 6 * 4 * 4; at++) {
+        uint16_t hour = hours[at / 16];
+        unsigned toucher = at / 4 % 4, tier = at % 4;
+        uint32_t value = fc_touch_of(hour, toucher, tier);
+        expect("a record", value, hour * 65536ul + toucher * 8192 + tier * 2048);
+        expect("its form", fc_is_touch(value) != 0, 1);
+        expect("its hour", fc_hour(value), hour);
+        expect("its toucher", fc_toucher(value), toucher);
+        expect("its tier", fc_tier(value), tier);
+        for (unsigned bit = 0; bit < 11; bit++)
+            expect("the form of a record with a low bit set", fc_is_touch(value | 1u << bit) != 0, 0);
+        expect("the form of a record of toucher 4 to 7", fc_is_touch(fc_touch_of(hour, toucher + 4, tier)) != 0, 0);
+    }
+    expect("hour 0x1234, migration, tier 3", fc_touch_of(0x1234, FC_BY_MIGRATION, 3), 0x12345800);
+    expect("restore", toucher_number(FC_BY_RESTORE), 3);
 }
 
 int main(void)
@@ -55,8 +93,11 @@ int main(void)
     expect("value", answer.value, 0xFFEEDDCC);
 
     CODES(EXPECT)
+    TOUCHERS(EXPECT)
+    touch_records();
     EXPECT(FC_TABLE_BYTES, 15620)
     EXPECT(FC_REPLY_BYTES, 12)
+    EXPECT(FC_LIST_BYTES, 64)
     EXPECT(FC_SITES, 8)
     EXPECT(FC_KEYS, 64)
     EXPECT(FC_PLACES, 16)

@@ -13,77 +13,110 @@
 static struct rng rng;
 static struct met met;
 static uint64_t calls;
-static struct room table_room, reply_room;
+static struct room table_room, list_room, reply_room;
 static uint8_t held[LENT_MOST]; /* the table between calls */
 static enum start held_is;
 
+struct lengths {
+    size_t table, list, reply;
+};
+static const struct lengths right = {FC_TABLE_BYTES, FC_LIST_BYTES, FC_REPLY_BYTES};
+
+/* What the list and the reply hold before the call: garbage. */
+static uint8_t old_list[LENT_MOST], old_reply[LENT_MOST];
+
 /* What is wrong with the library's outcome, or NULL. */
-static const char *wrong(const struct call *call, struct outcome ours, struct outcome twins, size_t table_len,
-                         const uint8_t *old_reply, size_t reply_len)
+static const char *wrong(const struct call *call, struct outcome ours, struct outcome twins, struct lengths length)
 {
     if (ours.code != twins.code)
         return "the codes returned";
-    if (memcmp(ours.table, twins.table, table_len) != 0)
+    if (memcmp(ours.table, twins.table, length.table) != 0)
         return "the tables";
-    if (memcmp(ours.reply, twins.reply, reply_len) != 0)
+    if (memcmp(ours.list, twins.list, length.list) != 0)
+        return "the lists";
+    if (memcmp(ours.reply, twins.reply, length.reply) != 0)
         return "the replies";
-    if (!room_is_clean(&table_room) || !room_is_clean(&reply_room))
+    if (!room_is_clean(&table_room) || !room_is_clean(&list_room) || !room_is_clean(&reply_room))
         return "bytes beside a buffer";
-    if (reply_len == FC_REPLY_BYTES && ours.reply[0] != ours.code)
-        return "the code returned and the reply's";
-    if (reply_len != FC_REPLY_BYTES && (ours.code != FC_SIZE || memcmp(ours.reply, old_reply, reply_len) != 0))
+    if ((ours.code == FC_RANGE) != out_of_range(call, length.list))
+        return "14 comes first of all, and for nothing else";
+    if ((call->kind != COLD || ours.code != FC_OK) && memcmp(ours.list, old_list, length.list) != 0)
+        return "a refusal keeps the list, and so does any other call";
+    if (length.reply != FC_REPLY_BYTES &&
+        ((ours.code != FC_SIZE && ours.code != FC_RANGE) || memcmp(ours.reply, old_reply, length.reply) != 0))
         return "a reply of another length, or its code";
-    if (table_len == FC_TABLE_BYTES && reply_len == FC_REPLY_BYTES)
+    if (length.reply == FC_REPLY_BYTES && ours.reply[0] != ours.code)
+        return "the code returned and the reply's";
+    if (length.table == FC_TABLE_BYTES && length.reply == FC_REPLY_BYTES)
         return broken_law(held_is, call, held, ours);
-    return memcmp(ours.table, held, table_len) != 0 ? "a table of another length" : NULL;
+    return memcmp(ours.table, held, length.table) != 0 ? "a buffer of another length" : NULL;
+}
+
+static void show_difference(const char *name, const uint8_t *ours, const uint8_t *twins, size_t length)
+{
+    for (size_t at = 0; at < length; at++) {
+        if (ours[at] != twins[at]) {
+            printf("  byte %zu of the %s: forkcanyon %u, twin %u\n", at, name, ours[at], twins[at]);
+            return;
+        }
+    }
 }
 
 static void complain(const char *what, const struct call *call, struct outcome ours, struct outcome twins,
-                     size_t table_len, size_t reply_len)
+                     struct lengths length)
 {
-    printf("host: DIFFERENT at call %llu: %s\n  %s(%llu, %llu, value %lu), table of %zu, reply of %zu\n",
-           (unsigned long long)calls, what, kind_names[call->kind], (unsigned long long)call->first,
-           (unsigned long long)call->second, (unsigned long)call->value, table_len, reply_len);
+    printf("host: DIFFERENT at call %llu: %s\n  %s of", (unsigned long long)calls, what, kind_names[call->kind]);
+    for (int at = 0; at < MOST_NUMBERS; at++)
+        printf(" %llu", (unsigned long long)call->numbers[at]);
+    printf(", table of %zu, list of %zu, reply of %zu\n", length.table, length.list, length.reply);
     printf("  forkcanyon answers %u, twin %u\n", ours.code, twins.code);
-    for (size_t at = 0; at < table_len; at++) {
-        if (ours.table[at] != twins.table[at]) {
-            printf("  byte %zu of the table: forkcanyon %u, twin %u\n", at, ours.table[at], twins.table[at]);
-            break;
-        }
-    }
-    for (size_t at = 0; at < reply_len; at++)
-        printf("  reply %zu: forkcanyon %u, twin %u\n", at, ours.reply[at], twins.reply[at]);
+    show_difference("table", ours.table, twins.table, length.table);
+    show_difference("list", ours.list, twins.list, length.list);
+    show_difference("reply", ours.reply, twins.reply, length.reply);
     exit(1);
 }
 
-/* One call on held, which becomes the table the library leaves. */
-static void compare(struct call call, size_t table_len, size_t reply_len)
+/* Lends a copy to both, and says where they are. */
+static struct lent lend_both(struct room *room, uint8_t *twins, const uint8_t *bytes, size_t length)
 {
-    static uint8_t twin_table[LENT_MOST], twin_reply[LENT_MOST], old_reply[LENT_MOST];
-    uint8_t *table = room_lend(&table_room, &rng, table_len);
-    uint8_t *reply = room_lend(&reply_room, &rng, reply_len);
-    memcpy(table, held, table_len);
-    memcpy(twin_table, held, table_len);
-    rng_fill(&rng, old_reply, reply_len);
-    memcpy(reply, old_reply, reply_len);
-    memcpy(twin_reply, old_reply, reply_len);
+    struct lent lent = {room_lend(room, &rng, length), length};
+    memcpy(lent.bytes, bytes, length);
+    memcpy(twins, bytes, length);
+    return lent;
+}
 
-    struct outcome ours = {make_call(&forkcanyon, &call, table, table_len, reply, reply_len), table, reply};
-    struct outcome twins = {make_call(&twin, &call, twin_table, table_len, twin_reply, reply_len),
-                            twin_table, twin_reply};
-    const char *what = wrong(&call, ours, twins, table_len, old_reply, reply_len);
+static struct outcome outcome_of(const struct library *library, const struct call *call, struct buffers lent)
+{
+    uint32_t code = make_call(library, call, &lent);
+    return (struct outcome){code, lent.table.bytes, lent.list.bytes, lent.reply.bytes};
+}
+
+/* One call on held, which becomes the table the library leaves. */
+static void compare(struct call call, struct lengths length)
+{
+    static uint8_t twin_table[LENT_MOST], twin_list[LENT_MOST], twin_reply[LENT_MOST];
+    rng_fill(&rng, old_list, length.list);
+    rng_fill(&rng, old_reply, length.reply);
+    struct buffers lent = {lend_both(&table_room, twin_table, held, length.table),
+                           lend_both(&list_room, twin_list, old_list, length.list),
+                           lend_both(&reply_room, twin_reply, old_reply, length.reply)};
+    struct buffers twin_lent = {
+        {twin_table, length.table}, {twin_list, length.list}, {twin_reply, length.reply}};
+
+    struct outcome ours = outcome_of(&forkcanyon, &call, lent), twins = outcome_of(&twin, &call, twin_lent);
+    const char *what = wrong(&call, ours, twins, length);
     if (what != NULL)
-        complain(what, &call, ours, twins, table_len, reply_len);
+        complain(what, &call, ours, twins, length);
     calls += 1;
-    if (reply_len == FC_REPLY_BYTES)
-        met_note(&met, &call, ours.code, reply, memcmp(held, table, table_len) != 0);
-    memcpy(held, table, table_len);
+    if (length.reply == FC_REPLY_BYTES)
+        met_note(&met, &call, ours.code, ours.reply, memcmp(held, ours.table, length.table) != 0);
+    memcpy(held, ours.table, length.table);
 }
 
 static void compare_some(struct traffic *traffic, uint64_t times)
 {
     while (times-- > 0)
-        compare(some_call(&rng, traffic), FC_TABLE_BYTES, FC_REPLY_BYTES);
+        compare(some_call(&rng, traffic), right);
 }
 
 /* The traffic that suits the counts of the table that is held. */
@@ -96,10 +129,10 @@ static struct traffic traffic_of_held(unsigned wild)
 
 static void walk_from_opening(uint64_t length)
 {
-    struct call open = {OPEN, 1 + rng_below(&rng, FC_SITES), 1 + rng_below(&rng, FC_KEYS), 0};
+    struct call open = {OPEN, {1 + rng_below(&rng, FC_SITES), 1 + rng_below(&rng, FC_KEYS)}};
     if (rng_chance(&rng, 50))
-        open.second = 1 + rng_below(&rng, 3);
-    compare(open, FC_TABLE_BYTES, FC_REPLY_BYTES);
+        open.numbers[1] = 1 + rng_below(&rng, 3);
+    compare(open, right);
     held_is = REACHED;
     struct traffic traffic = traffic_of_held(2);
     traffic.weights[OPEN] = 0;
@@ -138,8 +171,8 @@ static void wrong_lengths(void)
     traffic.weights[OPEN] = 5;
     traffic.weights[DRAIN] = 5;
     for (int times = 0; times < 5; times++) {
-        size_t table_len = some_length(FC_TABLE_BYTES), reply_len = some_length(FC_REPLY_BYTES);
-        compare(some_call(&rng, &traffic), table_len, reply_len);
+        struct lengths length = {some_length(FC_TABLE_BYTES), some_length(FC_LIST_BYTES), some_length(FC_REPLY_BYTES)};
+        compare(some_call(&rng, &traffic), length);
     }
 }
 
@@ -173,6 +206,7 @@ int main(int argc, char **argv)
     uint64_t enough = strtoull(argv[2], NULL, 10);
     time_t until = time(NULL) + atol(argv[3]);
     room_build(&table_room);
+    room_build(&list_room);
     room_build(&reply_room);
     while (calls < enough || time(NULL) < until)
         round_of_calls();

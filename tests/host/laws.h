@@ -1,18 +1,23 @@
-/* Sentences of document 01 that every outcome must obey, whatever the second program says. */
+/* Sentences of documents 01 and 02 that every outcome must obey, whatever the second program says. */
 #ifndef LAWS_H
 #define LAWS_H
 
 #include "calls.h"
+
+#include <stdbool.h>
 
 /* What is known of the table before the call: reached from opening, sound, or nothing. */
 enum start { REACHED, SOUND, ANYTHING };
 
 struct outcome {
     uint32_t code;
-    const uint8_t *table, *reply;
+    const uint8_t *table, *list, *reply;
 };
 
-/* The sentence that a call on buffers of the right lengths breaks, or NULL. */
+/* Whether a call's own numbers, or the length of its list, are refused with 14. */
+bool out_of_range(const struct call *call, size_t list_len);
+
+/* The sentence that a call on a table and a reply of the right lengths breaks, or NULL. */
 const char *broken_law(enum start start, const struct call *call, const uint8_t *before, struct outcome after);
 
 #endif

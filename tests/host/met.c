@@ -2,13 +2,16 @@
 
 #include <stdio.h>
 
-/* Document 01's refusals of each call. */
+/* The codes of each call, by documents 01 and 02. */
 static const bool possible[KINDS][CODES] = {
     [OPEN] = {[0] = true, [1] = true, [3] = true},
     [PUT] = {[0] = true, [1] = true, [2] = true, [4] = true, [6] = true, [7] = true, [8] = true},
     [GET] = {[0] = true, [1] = true, [2] = true, [4] = true, [6] = true},
     [DELIVER] = {[0] = true, [1] = true, [2] = true, [4] = true, [5] = true, [9] = true, [10] = true},
     [DRAIN] = {[0] = true, [1] = true, [2] = true, [4] = true, [11] = true},
+    [TOUCH] = {[0] = true, [1] = true, [2] = true, [4] = true, [6] = true, [7] = true, [8] = true, [13] = true,
+               [14] = true},
+    [COLD] = {[0] = true, [1] = true, [2] = true, [4] = true, [14] = true},
 };
 
 void met_note(struct met *met, const struct call *call, uint32_t code, const uint8_t *reply, bool changed)
@@ -19,11 +22,17 @@ void met_note(struct met *met, const struct call *call, uint32_t code, const uin
     met->joined += call->kind == GET && code == FC_OK && changed;
     met->delivered += call->kind == DRAIN && code == FC_OK && answer.clock > 8;
     met->stopped_late += call->kind == DRAIN && code == FC_BUDGET && answer.clock > 0;
+    met->listed += call->kind == COLD && answer.key > 0;
+    met->ahead += call->kind == COLD && answer.site > 0;
+    met->malformed += call->kind == COLD && answer.clock > 0;
+    met->hours_kept += call->kind == TOUCH && code == FC_OK &&
+                       (fc_toucher(answer.value) == FC_BY_SCAN || fc_toucher(answer.value) == FC_BY_MIGRATION);
 }
 
 bool met_all(const struct met *met)
 {
-    bool all = met->never_written && met->joined && met->delivered && met->stopped_late;
+    bool all = met->never_written && met->joined && met->delivered && met->stopped_late && met->listed &&
+               met->ahead && met->malformed && met->hours_kept;
     for (int kind = 0; kind < KINDS; kind++)
         for (int code = 0; code < CODES; code++)
             all = all && possible[kind][code] == (met->codes[kind][code] > 0);
@@ -34,18 +43,22 @@ void met_print(const struct met *met)
 {
     printf("%8s", "code");
     for (int code = 0; code < CODES; code++)
-        printf("%9d", code);
+        printf("%8d", code);
     for (int kind = 0; kind < KINDS; kind++) {
         printf("\n%8s", kind_names[kind]);
         for (int code = 0; code < CODES; code++) {
             if (possible[kind][code] || met->codes[kind][code])
-                printf("%9llu", (unsigned long long)met->codes[kind][code]);
+                printf("%8llu", (unsigned long long)met->codes[kind][code]);
             else
-                printf("%9s", ".");
+                printf("%8s", ".");
         }
     }
     printf("\ngets of a never-written key %llu, gets that join %llu, drains of more than 8 %llu, "
            "drains stopped after a delivery %llu\n",
            (unsigned long long)met->never_written, (unsigned long long)met->joined,
            (unsigned long long)met->delivered, (unsigned long long)met->stopped_late);
+    printf("cold lists with a key %llu, with a clock ahead %llu, with a malformed value %llu, "
+           "touches that keep the hour %llu\n",
+           (unsigned long long)met->listed, (unsigned long long)met->ahead, (unsigned long long)met->malformed,
+           (unsigned long long)met->hours_kept);
 }

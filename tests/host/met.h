@@ -6,11 +6,12 @@
 
 #include <stdbool.h>
 
-enum { CODES = 13 }; /* 12, a schedule's, stands for anything beyond 11 too: no call may answer it */
+enum { CODES = 16 }; /* no call may answer 12, a schedule's, nor the last, which stands for anything beyond 14 */
 
 struct met {
     uint64_t codes[KINDS][CODES];
     uint64_t never_written, joined, delivered, stopped_late;
+    uint64_t listed, ahead, malformed, hours_kept;
 };
 
 /* Notes a call whose reply is whole; changed: whether the table did. */

@@ -4,7 +4,8 @@ function that writes a lent buffer and asks nothing of its caller. Its ensures i
     Promise (now (BUFFER .entry)).. (Call NUMBER..) (OUTCOME result (now (BUFFER .exit))..)
 
 with every lent buffer, the constructor of the function's name with every number, and every written buffer, all in the
-order of the parameters. pinned.txt has the definitions that give these words their meaning.
+order of the parameters. A cold list has the numbers alone: its promise knows the call, since it alone lends a list.
+pinned.txt has the definitions that give these words their meaning.
 
 usage: promises.py [ROOT]
 """
@@ -21,6 +22,8 @@ from declared import exported, functions, laws, parameters  # noqa: E402
 OUTCOMES = {
     ("table.specs.Answers", "Promise"): ("table.specs.Answers", "served"),
     ("forkcanyon.specs.Host", "Promise"): ("forkcanyon.specs.Host", "left"),
+    ("cold.specs.Listing", "Promise"): ("cold.specs.Listing", "listed"),
+    ("forkcanyon.specs.ColdHost", "Promise"): ("forkcanyon.specs.ColdHost", "left"),
     ("schedule.specs.Step", "Promise"): ("schedule.specs.Written", "answered"),
 }
 WRITTEN = ("schedule.specs.Written", "Written")
@@ -28,6 +31,8 @@ WRITTEN = ("schedule.specs.Written", "Written")
 # What a promise says in place of the constructor with the numbers; of Written, the place and the text.
 SAID = {
     "forkcanyon::fc_drain": "(Drain site (min budget mostTries))",
+    "cold::cold": "s hour threshold",
+    "forkcanyon::fc_cold": "site hour threshold",
     "schedule::play": "p",
     "schedule::write_answer": "0 (line number (numbersOf a))",
     "schedule::write_listing": "0 (listing (now (input .entry)))",

@@ -195,11 +195,13 @@ class Here(unittest.TestCase):
             shutil.copytree(HERE / "crates", root / "crates")
             shutil.copytree(HERE / "docs", root / "docs")
             shutil.copytree(HERE / "tests" / "promises", root / "tests" / "promises")
-            for crate, calls in [("table", 4), ("drain", 1), ("forkcanyon", 5), ("schedule", 3)]:
-                file = root / "crates" / crate / "src" / "lib.rt"
+            counts = {"table": 4, "touch": 1, "cold": 1, "drain": 1, "forkcanyon": 6, "schedule": 3}
+            files = {f"{crate}/src/lib.rt": calls for crate, calls in counts.items()}
+            for name, calls in {**files, "forkcanyon/src/cold_list.rt": 1}.items():
+                file, crate = root / "crates" / name, name.split("/")[0]
                 kept = file.read_text()
                 found = list(HEAD.finditer(kept))
-                self.assertEqual(len(found), calls, crate)
+                self.assertEqual(len(found), calls, name)
                 for head in found:
                     file.write_text(kept[: head.start()] + head[1] + kept[head.end() :])
                     self.assertIn(f"{crate}::{head[2]}: it", " ".join(faults(root)))

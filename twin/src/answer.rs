@@ -2,7 +2,7 @@
 
 pub const REPLY_BYTES: usize = 12;
 
-/// Document 01's codes; a call answers the lowest one whose condition holds.
+/// The codes of documents 01 and 02; a call answers the first one whose condition holds, as they are asked.
 #[derive(Clone, Copy, PartialEq, Eq, Debug)]
 pub enum Code {
     Accepted = 0,
@@ -18,6 +18,8 @@ pub enum Code {
     CauseMissing = 10,
     BudgetSpent = 11,
     UnusedField = 12,
+    NoRecord = 13,
+    OutOfRange = 14,
 }
 
 /// For drain, `clock` holds the deliveries and `value` the tries.

@@ -1,4 +1,4 @@
-//! Open, put, get and deliver on a buffer of the right length; refusals stand in the order of their codes.
+//! Open, put, get and deliver on a buffer of the right length; refusals stand in the order in which they are asked.
 
 use crate::answer::{Answer, Code, Outcome};
 use crate::sound::is_sound;
@@ -16,6 +16,11 @@ pub fn put(table: &mut Table, site: u64, key: u64, value: u32) -> Outcome {
     demand_sound(table)?;
     let site = named_site(table, site)?;
     let key = named_key(table, key)?;
+    put_at(table, site, key, value)
+}
+
+/// A put on a sound table at one of its sites and keys, if there is a clock and room for it.
+pub fn put_at(table: &mut Table, site: usize, key: usize, value: u32) -> Outcome {
     let Some(clock) = table.applied(site, site).checked_add(1) else {
         return Err(Answer::refused(Code::ClocksSpent));
     };
@@ -37,15 +42,23 @@ pub fn get(table: &mut Table, site: u64, key: u64) -> Outcome {
     demand_sound(table)?;
     let site = named_site(table, site)?;
     let key = named_key(table, key)?;
+    Ok(match get_at(table, site, key) {
+        Some(entry) => Answer::accepted(key as u8, entry.name, entry.clock, entry.value),
+        None => Answer::accepted(key as u8, 0, 0, 0),
+    })
+}
+
+/// A get on a sound table at one of its sites and keys; nothing comes of a never-written key.
+pub fn get_at(table: &mut Table, site: usize, key: usize) -> Option<Record> {
     let entry = table.entry(site, key);
     if entry.clock == 0 {
-        return Ok(Answer::accepted(key as u8, 0, 0, 0));
+        return None;
     }
     let origin = usize::from(entry.name);
     let mut depends = join(table.depends_row(site), entry.depends);
     depends[origin] = depends[origin].max(entry.clock);
     table.set_depends_row(site, depends);
-    Ok(Answer::accepted(key as u8, entry.name, entry.clock, entry.value))
+    Some(entry)
 }
 
 pub fn deliver(table: &mut Table, site: u64, origin: u64) -> Outcome {
@@ -87,7 +100,7 @@ pub fn named_site(table: &Table, site: u64) -> Result<usize, Answer> {
     below(site, table.sites(), Code::Site)
 }
 
-fn named_key(table: &Table, key: u64) -> Result<usize, Answer> {
+pub fn named_key(table: &Table, key: u64) -> Result<usize, Answer> {
     below(key, table.keys(), Code::Key)
 }
 

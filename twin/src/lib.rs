@@ -1,16 +1,19 @@
-//! A second Forkcanyon: document 01's table and its five calls, written from that document alone.
+//! A second Forkcanyon: the table of documents 01 and 02 and its calls, written from these documents alone.
 //!
 //! Every call takes any numbers and any buffers, writes the reply and returns its code.
 
 mod answer;
 mod calls;
+mod cold;
 mod drain;
 mod host;
 mod schedule;
 mod sound;
 mod table;
+mod touch;
 
 pub use answer::{Answer, Code, REPLY_BYTES};
+pub use cold::LIST_BYTES;
 pub use schedule::listing;
 pub use table::{Table, KEYS, PLACES, SITES, TABLE_BYTES};
 
@@ -39,16 +42,37 @@ pub fn drain(site: u64, budget: u64, table: &mut [u8], reply: &mut [u8]) -> u32 
     edge(table, reply, |table| drain::drain(table, site, budget))
 }
 
-/// "If the reply buffer is not 12 bytes, neither buffer is written and 1 comes back."
+/// Lists the keys that have been cold at a site for the threshold or longer; gets every key there.
+pub fn cold(site: u64, now: u64, threshold: u64, table: &mut [u8], list: &mut [u8], reply: &mut [u8]) -> u32 {
+    let asked = cold::asked(now, threshold, list);
+    edge_asked(asked, table, reply, |asked, table| cold::cold(table, site, asked))
+}
+
+/// Gets a key and puts a touch record in its place.
+pub fn touch(site: u64, key: u64, now: u64, toucher: u64, tier: u64, table: &mut [u8], reply: &mut [u8]) -> u32 {
+    let asked = touch::asked(now, toucher, tier);
+    edge_asked(asked, table, reply, |asked, table| touch::touch(table, site, key, asked))
+}
+
 fn edge(table: &mut [u8], reply: &mut [u8], call: impl FnOnce(&mut Table) -> answer::Outcome) -> u32 {
-    let Ok(reply) = <&mut [u8; REPLY_BYTES]>::try_from(reply) else {
-        return Code::BufferSize as u32;
-    };
-    let outcome = match <&mut [u8; TABLE_BYTES]>::try_from(table) {
-        Ok(bytes) => call(&mut Table::over(bytes)),
-        Err(_) => Err(Answer::refused(Code::BufferSize)),
-    };
+    edge_asked(Ok(()), table, reply, |(), table| call(table))
+}
+
+/// What is asked of a call's own numbers comes "first of all"; then "if the reply buffer is not 12 bytes,
+/// neither buffer is written and 1 comes back".
+fn edge_asked<Asked>(
+    asked: Result<Asked, Answer>,
+    table: &mut [u8],
+    reply: &mut [u8],
+    call: impl FnOnce(Asked, &mut Table) -> answer::Outcome,
+) -> u32 {
+    let outcome = asked.and_then(|asked| match (<&mut [u8; TABLE_BYTES]>::try_from(table), reply.len()) {
+        (Ok(bytes), REPLY_BYTES) => call(asked, &mut Table::over(bytes)),
+        _ => Err(Answer::refused(Code::BufferSize)),
+    });
     let answer = answer::told(outcome);
-    *reply = answer.bytes();
+    if let Ok(reply) = <&mut [u8; REPLY_BYTES]>::try_from(reply) {
+        *reply = answer.bytes();
+    }
     answer.code as u32
 }

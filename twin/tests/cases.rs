@@ -1,54 +1,9 @@
 //! Document 01's listing and its sixteen sessions at the edges.
 
-use twin::{deliver, drain, get, listing, open, put, REPLY_BYTES, TABLE_BYTES};
+mod session;
 
-/// A table with its last reply read as the five numbers.
-struct Session {
-    table: Vec<u8>,
-}
-
-type Numbers = [u32; 5];
-
-fn opened(sites: u64, keys: u64) -> Session {
-    let mut session = Session { table: vec![0xA5; TABLE_BYTES] };
-    assert_eq!(session.open(sites, keys), [0; 5]);
-    session
-}
-
-impl Session {
-    fn call(&mut self, call: impl FnOnce(&mut [u8], &mut [u8]) -> u32) -> Numbers {
-        let mut reply = [0xA5; REPLY_BYTES];
-        let code = call(&mut self.table, &mut reply);
-        let [told, key, site, zero, clock_high, clock_low, zero_2, zero_3, value @ ..] = reply;
-        assert_eq!([code, 0, 0, 0], [told, zero, zero_2, zero_3].map(u32::from));
-        let clock = u16::from_be_bytes([clock_high, clock_low]);
-        [code, key.into(), site.into(), clock.into(), u32::from_be_bytes(value)]
-    }
-
-    fn open(&mut self, sites: u64, keys: u64) -> Numbers {
-        self.call(|table, reply| open(sites, keys, table, reply))
-    }
-
-    fn put(&mut self, site: u64, key: u64, value: u32) -> Numbers {
-        self.call(|table, reply| put(site, key, value, table, reply))
-    }
-
-    fn get(&mut self, site: u64, key: u64) -> Numbers {
-        self.call(|table, reply| get(site, key, table, reply))
-    }
-
-    fn deliver(&mut self, site: u64, origin: u64) -> Numbers {
-        self.call(|table, reply| deliver(site, origin, table, reply))
-    }
-
-    fn drain(&mut self, site: u64, budget: u64) -> Numbers {
-        self.call(|table, reply| drain(site, budget, table, reply))
-    }
-}
-
-fn refused(code: u32) -> Numbers {
-    [code, 0, 0, 0, 0]
-}
+use session::{opened, refused, Session};
+use twin::{listing, open, put, REPLY_BYTES, TABLE_BYTES};
 
 /// The document's schedule up to step 5.
 fn before_the_drain() -> Session {

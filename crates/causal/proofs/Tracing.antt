@@ -1,9 +1,9 @@
 -- Every table that calls lead to from an opening is the world of a run whose labels are its history: demand 3 on plain numbers. Assumes nothing.
-use mathlib.Core.Path.{_≡_, sym, ap, subst, _∙_}
+use mathlib.Core.Path.{_≡_, refl, sym, ap, subst, _∙_}
 use mathlib.Core.Bool.{Bool, true, false, _||_}
 use mathlib.Core.List.{List, [], _∷_, _++_, map}
 use mathlib.Core.Logic.{⊎-elim, _≢_}
-use Prim.Native.Nat.{ℕ, _<_}
+use Prim.Native.Nat.{ℕ, zero, suc, _≤_, _<_}
 use native.Mathlib.Omega.{arith}
 use lib.Dec.{eqb}
 use borrow.Author.Tests.{eq-eqb, ne-eqb}
@@ -12,22 +12,24 @@ use Rattle.clock.specs.Lists.{_∈_}
 use Rattle.clock.proofs.Maps.{eq?}
 use Rattle.layout.specs.State.{State}
 use Rattle.rules.specs.Sound.{Sound}
+use Rattle.rules.specs.Touch.{touched}
+use Rattle.rules.specs.Refusals.{first}
 use Rattle.rules.specs.Steps as r
 use Rattle.rules.specs.Steps.{Numbers, Outcome, opened}
 use Rattle.rules.specs.Drain.{drained, drain}
-use Rattle.rules.specs.Calls.{Call, Open, Put, Get, Deliver, Drain, refusals, step, run}
-use Rattle.rules.specs.Refusals.{first}
+use Rattle.rules.specs.Calls.{Call, Open, Put, Get, Deliver, Drain, Cold, Touch, refusals, step, run}
 use Rattle.laws.specs.Theorems.{Delivers, start, one-more}
-use Rattle.laws.proofs.Ready.{OpenReady, open-ready, drain-ready}
-use Rattle.laws.proofs.Given.{run-cases, run-accepted, run-refused, first-clear, ascends}
+use Rattle.laws.proofs.Ready.{OpenReady, GetReady, open-ready, put-ready, get-ready, drain-ready, cold-ready, touch-ready}
+use Rattle.laws.proofs.Given.{no-eleven, run-cases, run-accepted, run-refused}
 use Rattle.laws.proofs.Keeps.{open-sound}
+use Rattle.laws.proofs.Codes.{accepted-first}
+use Rattle.laws.proofs.Touching.{learn-apart, learnAll-apart, apart-sound, apart-ready}
 use Rattle.laws.proofs.Draining.{drained-code, drain-delivers}
 use Rattle.laws.proofs.Turns.{drain-ends}
-use Rattle.laws.proofs.Codes.{spent-exactly}
 use Rattle.laws.proofs.After.{counts-kept}
-use Rattle.causal.specs.World.{World, Event, put, update, Run, begin, more}
+use Rattle.causal.specs.World.{Answer, World, Event, put, get, update, Run, begin, more}
 use Rattle.causal.specs.History.{History, Lacks}
-use Rattle.causal.specs.Refines.{Abstracts, answer, Refines, after-call, Causal}
+use Rattle.causal.specs.Refines.{Abstracts, answer, Refines, found, gotten, after-call, Causal}
 use Rattle.causal.proofs.Meaning.{open-abstracts}
 use Rattle.causal.proofs.Following.{puts, gets, delivers}
 use Rattle.causal.proofs.Handed.{in-right}
@@ -97,6 +99,53 @@ delivers-traced {s} {h = h} T (one-more {made = made} {R = Q} d o z) =
 drain-traced : {S : State} {h : History} → Traced S h → (s b : ℕ) → Traced (drain S s b .after) (map (delivered s) (drained S s b .made) ++ h)
 drain-traced {S} T s b = delivers-traced T (drain-delivers S s b .0)
 
+-- ## Touch and the cold list
+
+-- a call whose step is traced, and that makes no event where it is refused
+stepped : {S : State} {h : History} → Traced S h → (c : Call) → (first (refusals S c) ≡ 0 → Traced (step S c .after) (after-call S c (step S c .answer) h))
+    → ((a : Numbers) → a .code ≢ 0 → after-call S c a h ≡ h) → Traced (run S c .after) (after-call S c (run S c .answer) h)
+stepped {S} {h} T c f none =
+    ⊎-elim
+    (λ p. subst (λ (o : Outcome). Traced (o .after) (after-call S c (o .answer) h)) (sym (p .1)) (f (p .0)))
+    (λ p. rw (none (run S c .answer) (λ z. p .0 (sym (run-refused S c (p .0)) ∙ z)), p .1) T)
+    (run-cases S c)
+
+-- an accepted get, with its event
+got-traced : {S : State} {h : History} → Traced S h → (s x : ℕ) → GetReady S s x → Traced (r.learn S s x) (get s x (found S s x) ∷ h)
+unfolding step r.get refusals
+got-traced {S} {h} T s x R =
+    let z = accepted-first S (Get s x) refl .1 (get-ready S s x .1 R) in
+    subst (λ (o : Outcome). Traced (o .after) (after-call S (Get s x) (o .answer) h)) (run-accepted S (Get s x) z .1) (get-traced T s x)
+
+touch-traced : {S : State} {h : History} → Traced S h → (s x now u w : ℕ)
+    → Traced (run S (Touch s x now u w) .after) (after-call S (Touch s x now u w) (run S (Touch s x now u w) .answer) h)
+unfolding step r.touch r.put refusals
+touch-traced {S} {h} T s x now u w =
+    stepped T (Touch s x now u w)
+    (λ z.
+    let P = touch-ready S s x now u w z .put in
+    let L = r.learn S s x in
+    let v = touched (S .store s x .value) now u w in
+    let T₁ = got-traced T s x (record { sound = P .sound; site = P .site; key = P .key }) in
+    let y = accepted-first L (Put s x v) refl .1 (put-ready L s x .1 (apart-ready (learn-apart S s x) P)) in
+    subst (λ (o : Outcome). Traced (o .after) (after-call L (Put s x v) (o .answer) (get s x (found S s x) ∷ h))) (run-accepted L (Put s x v) y .1) (put-traced T₁ s x v))
+    (λ a z. rw (ne-eqb (a .code) 0 z))
+
+gotten-traced : {S : State} {h : History} → Traced S h → (s m : ℕ) → s < S .n → m ≤ S .k → Traced (r.learnAll S s m) (gotten S s m h)
+unfolding r.learnAll
+gotten-traced T s zero p q = T
+gotten-traced {S} {h} T s (suc m) p q =
+    let e = learnAll-apart S s m in
+    let L = r.learnAll S s m in
+    let R : GetReady L s m = record { sound = apart-sound e (T .sound); site = rw (e .1) p; key = rw (e .1) (omega arith) } in
+    subst (λ (a : Answer). Traced (r.learn L s m) (get s m a ∷ gotten S s m h)) (ap (λ (Q : State). found Q s m) (e .1)) (got-traced (gotten-traced T s m p (omega arith)) s m R)
+
+cold-traced : {S : State} {h : History} → Traced S h → (s now U m : ℕ)
+    → Traced (run S (Cold s now U m) .after) (after-call S (Cold s now U m) (run S (Cold s now U m) .answer) h)
+unfolding step r.cold
+cold-traced {S} T s now U m =
+    stepped T (Cold s now U m) (λ z. gotten-traced T s (S .k) (cold-ready S s now U m z .site) (omega arith)) (λ a z. rw (ne-eqb (a .code) 0 z))
+
 -- ## Any call
 
 open-traced : (n k : ℕ) → OpenReady n k → Traced (opened n k) []
@@ -112,10 +161,6 @@ opening-traced {S} {h} T n k =
     (λ p. rw (ne-eqb _ 0 (λ z. p .0 (sym (run-refused S (Open n k) (p .0)) ∙ z)), p .1) T)
     (run-cases S (Open n k))
 
--- no list of conditions has 11
-not-spent : (S : State) (c : Call) → first (refusals S c) ≢ 0 → first (refusals S c) ≢ 11
-not-spent S c h z = h (first-clear 0 (refusals S c) (ascends S c) .1 (spent-exactly S c .0 (run-refused S c h ∙ z) .0))
-
 draining-traced : {S : State} {h : History} → Traced S h → (s b : ℕ) → Traced (run S (Drain s b) .after) (after-call S (Drain s b) (run S (Drain s b) .answer) h)
 unfolding step drain
 draining-traced {S} {h} T s b =
@@ -124,7 +169,7 @@ draining-traced {S} {h} T s b =
     (λ p.
     let e = run-refused S (Drain s b) (p .0) in
     let z : eqb (run S (Drain s b) .answer .code) 0 || eqb (run S (Drain s b) .answer .code) 11 ≡ false =
-    rw (e, ne-eqb _ 0 (p .0), ne-eqb _ 11 (not-spent S (Drain s b) (p .0))) in
+    rw (e, ne-eqb _ 0 (p .0), ne-eqb _ 11 (no-eleven S (Drain s b))) in
     rw (z, p .1) T)
     (run-cases S (Drain s b))
   where
@@ -137,6 +182,8 @@ run-traced T (Put s x v) = put-traced T s x v
 run-traced T (Get s x) = get-traced T s x
 run-traced T (Deliver s o) = deliver-traced T s o
 run-traced T (Drain s b) = draining-traced T s b
+run-traced T (Cold s now U m) = cold-traced T s now U m
+run-traced T (Touch s x now u w) = touch-traced T s x now u w
 
 -- ## Demand 3
 

@@ -3,7 +3,7 @@ use mathlib.Core.Path.{_≡_}
 use mathlib.Core.Bool.{_||_}
 use mathlib.Core.List.{List, [], _∷_, _++_, map}
 use mathlib.Core.Logic.{_⊎_, _↔_, _≢_}
-use Prim.Native.Nat.{ℕ, _+_, _^_, _≤_, _<_}
+use Prim.Native.Nat.{ℕ, zero, suc, _+_, _^_, _≤_, _<_}
 use lib.Dec.{eqb}
 use lib.ListN.{length}
 use Rattle.clock.specs.Map.{if_then_else_}
@@ -13,7 +13,7 @@ use Rattle.layout.specs.State.{State, lastClock}
 use Rattle.rules.specs.Sound.{place, Retained, Sound}
 use Rattle.rules.specs.Steps.{Numbers, done, Outcome}
 use Rattle.rules.specs.Drain.{drained}
-use Rattle.rules.specs.Calls.{Call, Open, Put, Get, Deliver, Drain}
+use Rattle.rules.specs.Calls.{Call, Open, Put, Get, Deliver, Drain, Cold, Touch}
 use Rattle.causal.specs.World.{Set, just, _∪_, Answer, never, wrote, World, nth, waiting, Behind, CausesApplied, Event, put, get, update, Step, Run}
 use Rattle.causal.specs.History.{History, Ordered, Lacks}
 
@@ -55,13 +55,24 @@ numbers (get s x never) = done x 0 0 0
 numbers (get s x (wrote v o c)) = done x o c v
 numbers (update s o c x v) = done x o c v
 
--- the history after a call: a refused one makes no event, opening starts a new history, a drain has the events of its deliveries, also before an 11
+-- what a get of x at s finds, and the gets of the keys below m, in that order
+abbrev pub found : State → (s x : ℕ) → Answer
+found S s x = let e = S .store s x in answer (e .value) (e .origin) (e .clock)
+
+abbrev pub gotten : State → (s m : ℕ) → History → History
+gotten S s zero h = h
+gotten S s (suc m) h = get s m (found S s m) ∷ gotten S s m h
+
+-- the history after a call: a refused one makes no event, opening starts a new history, a drain has the events of its deliveries, also before an 11,
+-- a cold list its gets, a touch its get and its put
 abbrev pub after-call : State → Call → Numbers → History → History
 after-call S (Open n k) a h = if eqb (a .code) 0 then [] else h
 after-call S (Put s x v) a h = if eqb (a .code) 0 then put s x v (a .clock) ∷ h else h
 after-call S (Get s x) a h = if eqb (a .code) 0 then get s x (answer (a .value) (a .site) (a .clock)) ∷ h else h
 after-call S (Deliver s o) a h = if eqb (a .code) 0 then update s o (a .clock) (a .key) (a .value) ∷ h else h
 after-call S (Drain s b) a h = if eqb (a .code) 0 || eqb (a .code) 11 then map (λ (d : Numbers). update s (d .site) (d .clock) (d .key) (d .value)) (drained S s b .made) ++ h else h
+after-call S (Cold s now T m) a h = if eqb (a .code) 0 then gotten S s (S .k) h else h
+after-call S (Touch s x now u r) a h = if eqb (a .code) 0 then put s x (a .value) (a .clock) ∷ get s x (found S s x) ∷ h else h
 
 -- figure 7's step, its label the call's event and the whole answer; its world is that of the table, which is sound
 pub record Steps (S : State) (W : World) (c : Call) (r : Outcome) : Type 1 where

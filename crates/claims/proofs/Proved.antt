@@ -5,11 +5,14 @@ use lib.ListN.{length}
 use Rattle.layout.specs.State.{the-widths, the-offsets}
 use Rattle.layout.proofs.TableTrips.{bytes-back, state-back, state-fits, bytes-long}
 use Rattle.rules.specs.Cases.{Case, cases, starred}
+use Rattle.rules.specs.TouchCases.{parts, forms, kinds, touches, touched-so, listed-so, words-first}
 use Rattle.rules.specs.Bounds.{bounds, at-bounds}
 use Rattle.rules.specs.SoundCases.{fact-by-fact}
 use Rattle.laws.proofs.Tested.{sound-tested}
 use Rattle.laws.proofs.After.{accepted-sound, keeps-sound}
-use Rattle.laws.proofs.Given.{codes-listed}
+use Rattle.laws.proofs.Given.{codes-listed, follows-order}
+use Rattle.laws.proofs.Records.{touch-back, formed-exactly, age-adds, aged-exactly, kind-exactly, touched-says, kinds-listed, list-filled}
+use Rattle.laws.proofs.Touches.{cold-answers, cold-is-gets, touch-is-both, scan-keeps-coldness}
 use Rattle.laws.proofs.Codes.{given-exactly, accepted-exactly, spent-exactly, refused-keeps, refused-zeros, missing-named}
 use Rattle.laws.proofs.Draining.{drain-delivers, drain-prefix, tries-within}
 use Rattle.laws.proofs.Turns.{drain-ends}
@@ -22,11 +25,13 @@ use Rattle.causal.proofs.Anomaly.{anomalies}
 use Rattle.demands.proofs.Proved.{demand1, demand2, demand3}
 use Rattle.demands.proofs.Drained.{nothing-delivered}
 use Rattle.demands.proofs.Schedule.{history, causal}
-use Rattle.table.specs.NoSecond.{open-no-second, put-no-second, get-no-second, deliver-no-second, drain-no-second}
-use Rattle.forkcanyon.specs.NoSecond.{fc-open-no-second, fc-put-no-second, fc-get-no-second, fc-deliver-no-second, fc-drain-no-second}
+use Rattle.table.specs.NoSecond.{open-no-second, put-no-second, get-no-second, deliver-no-second, drain-no-second, touch-no-second}
+use Rattle.cold.specs.NoSecond.{cold-no-second}
+use Rattle.forkcanyon.specs.NoSecond.{fc-open-no-second, fc-put-no-second, fc-get-no-second, fc-deliver-no-second, fc-drain-no-second, fc-touch-no-second}
+use Rattle.forkcanyon.specs.ColdNoSecond.{fc-cold-no-second}
 use Rattle.table.specs.Worked as worked
 use Rattle.forkcanyon.specs.Worked as replies
-use Rattle.forkcanyon.proofs.Sizes.{wrong-reply, wrong-table, size-exactly}
+use Rattle.forkcanyon.proofs.Sizes.{wrong-reply, wrong-table, size-exactly, cold-hosts, list-written}
 use Rattle.schedule.specs.Theorems.{play-no-second, written-no-second}
 use Rattle.schedule.proofs.Rest.{rest-ignored, always-ends}
 use Rattle.claims.specs.Claims.{Claims}
@@ -38,6 +43,10 @@ which = refl
 how-many : length bounds ≡ 23
 unfolding bounds
 how-many = refl
+
+ten : length touches ≡ 10
+unfolding touches
+ten = refl
 
 pub claims : Claims
 claims =
@@ -63,11 +72,24 @@ claims =
             fc-put = fc-put-no-second;
             fc-get = fc-get-no-second;
             fc-deliver = fc-deliver-no-second;
+            touches = touch-no-second;
+            lists = cold-no-second;
+            fc-touch = fc-touch-no-second;
+            fc-cold = fc-cold-no-second;
             fc-drain = fc-drain-no-second;
             plays = play-no-second;
             written = written-no-second;
           };
-      cases = record { starred = starred; at-bounds = at-bounds; which = which; how-many = how-many; fact-by-fact = fact-by-fact };
+      cases =
+          record {
+            starred = starred;
+            at-bounds = at-bounds;
+            which = which;
+            how-many = how-many;
+            touches = (touched-so, ten);
+            records = (parts, forms, kinds, listed-so, words-first);
+            fact-by-fact = fact-by-fact;
+          };
       bytes =
           record {
             bytes-back = bytes-back;
@@ -85,6 +107,7 @@ claims =
       codes =
           record {
             listed = codes-listed;
+            in-order = follows-order;
             given = given-exactly;
             accepted = accepted-exactly;
             spent = spent-exactly;
@@ -102,6 +125,23 @@ claims =
             bounded = tries-bounded;
             pending = pending-bounded;
             enough = budget-enough;
+          };
+      touches =
+          record {
+            touch-back = touch-back;
+            formed-exactly = formed-exactly;
+            age-adds = age-adds;
+            aged-exactly = aged-exactly;
+            kind-exactly = kind-exactly;
+            kinds-listed = kinds-listed;
+            list-filled = list-filled;
+            cold-answers = cold-answers;
+            cold-is-gets = cold-is-gets;
+            cold-hosts = cold-hosts;
+            list-written = list-written;
+            touched-says = touched-says;
+            touch-is-both = touch-is-both;
+            scan-keeps-coldness = scan-keeps-coldness;
           };
       listings = record { rest-ignored = rest-ignored; always-ends = always-ends };
     }

@@ -54,7 +54,7 @@ nothing-is-one : serve [] (Get 0 0) .answer .code ≡ 1
 unfolding asks refusals get-refusals
 nothing-is-one =
     claims .demands .one [] nothing-bytes (Get 0 0) .given 1 (omega arith) (omega arith) .1
-    (record { holds = refl; lowest = λ c l. let z : c ≡ 0 = omega arith in rw z refl })
+    (inl (refl, refl))
 
 -- ## Demand 2
 

@@ -7,11 +7,13 @@ use lib.ListN.{length}
 use Rattle.clock.specs.Vector.{Vector}
 use Rattle.layout.specs.State.{table, stateOf, the-widths, the-offsets}
 use Rattle.layout.specs.Theorems.{BytesBack, StateBack, StateFits, BytesLong}
-use Rattle.rules.specs.Calls.{Open, Put, Get, Deliver, Drain, Served, serve}
+use Rattle.rules.specs.Calls.{Open, Put, Get, Deliver, Drain, Touch, Served, Listed, serve}
 use Rattle.rules.specs.Cases.{Case, cases, Computed}
+use Rattle.rules.specs.TouchCases.{parts, forms, kinds, touches, listed-so, words-first}
 use Rattle.rules.specs.Bounds.{bounds}
 use Rattle.rules.specs.SoundCases.{Fact, tables, answered, expected}
-use Rattle.laws.specs.Theorems.{SoundTested, AcceptedSound, KeepsSound, RefusedKeeps, CodesListed, GivenExactly, AcceptedExactly, SpentExactly, RefusedZeros, MissingNamed, DrainDelivers, DrainRises, DrainEnds, TriesWithin, TriesBounded, PendingBounded, BudgetEnough, DrainPrefix}
+use Rattle.laws.specs.Theorems.{SoundTested, AcceptedSound, KeepsSound, RefusedKeeps, CodesListed, FollowsOrder, GivenExactly, AcceptedExactly, SpentExactly, RefusedZeros, MissingNamed, DrainDelivers, DrainRises, DrainEnds, TriesWithin, TriesBounded, PendingBounded, BudgetEnough, DrainPrefix}
+use Rattle.laws.specs.Touches.{TouchBack, FormedExactly, AgeAdds, AgedExactly, KindExactly, KindsListed, ListFilled, ColdAnswers, ColdIsGets, TouchedSays, TouchIsBoth, ScanKeepsColdness}
 use Rattle.causal.specs.World.{Set, World, Run}
 use Rattle.causal.specs.History.{History, AppliedExactly, CausalRun}
 use Rattle.causal.specs.Anomalies.{Anomalies}
@@ -22,8 +24,11 @@ use Rattle.table.specs.NoSecond as table
 use Rattle.table.specs.Worked as worked
 use Rattle.forkcanyon.specs.Host.{mostTries}
 use Rattle.forkcanyon.specs.NoSecond as host
+use Rattle.forkcanyon.specs.ColdHost as fc-cold
+use Rattle.forkcanyon.specs.ColdHost.{Hosted}
+use Rattle.cold.specs.Listing as cold
 use Rattle.forkcanyon.specs.Worked as replies
-use Rattle.forkcanyon.specs.Theorems.{WrongReply, WrongTable, SizeExactly}
+use Rattle.forkcanyon.specs.Theorems.{WrongReply, WrongTable, SizeExactly, ColdHosts, ListWritten}
 use Rattle.schedule.specs.declared.Step.{Step}
 use Rattle.schedule.specs.Step.{Promise}
 use Rattle.schedule.specs.Written.{Written}
@@ -66,10 +71,20 @@ pub record NoSecondOutcome : Type 0 where
   pub fc-put : (s x v : ℕ) → host.NoSecond (Put s x v) × host.One (Put s x v)
   pub fc-get : (s x : ℕ) → host.NoSecond (Get s x) × host.One (Get s x)
   pub fc-deliver : (s o : ℕ) → host.NoSecond (Deliver s o) × host.One (Deliver s o)
+  pub touches : (s x hour u r : ℕ) → table.NoSecond (Touch s x hour u r) × table.One (Touch s x hour u r)
+  pub lists : (t l : List ℕ) (s hour T : ℕ)
+      → ((o o′ : Listed) → cold.Promise t l s hour T o → cold.Promise t l s hour T o′ → o ≡ o′) × ((o : Listed) × cold.Promise t l s hour T o)
+  pub fc-touch : (s x hour u r : ℕ) → host.NoSecond (Touch s x hour u r) × host.One (Touch s x hour u r)
+  pub fc-cold : (t l r : List ℕ) (s hour T : ℕ)
+      → ((o o′ : Hosted) → fc-cold.Promise t l r s hour T o → fc-cold.Promise t l r s hour T o′ → o ≡ o′) × ((o : Hosted) × fc-cold.Promise t l r s hour T o)
   pub fc-drain : (s b : ℕ) → host.NoSecond (Drain s (min b mostTries)) × host.One (Drain s (min b mostTries))
   pub plays : (t : List ℕ) (p : Step) → ((w w′ : Served) → Promise t p w → Promise t p w′ → w ≡ w′) × ((w : Served) × Promise t p w)
   pub written : {before text after after′ : List ℕ} {at end end′ : ℕ} → Written before at text end after → Written before at text end′ after′
       → (end ≡ end′) × (after ≡ after′)
+
+-- what a worked case says, by its name
+abbrev Says : {A : Type 0} → A → Type 0
+Says {A} a = A
 
 -- worked cases, computed from the rules
 pub record OfCases : Type 0 where
@@ -79,12 +94,11 @@ pub record OfCases : Type 0 where
   -- all of them: case 15 has two tables, 0 is the schedule
   pub which : map (λ (c : Case). c .number) cases ≡ 1 ∷ 3 ∷ 4 ∷ 5 ∷ 6 ∷ 7 ∷ 9 ∷ 10 ∷ 11 ∷ 12 ∷ 13 ∷ 15 ∷ 15 ∷ 0 ∷ []
   pub how-many : length bounds ≡ 23
+  -- touch and the cold list; records, kinds and the list at their edges
+  pub touches : Computed touches × (length touches ≡ 10)
+  pub records : Says parts × Says forms × Says kinds × Says listed-so × Says words-first
   -- for each fact of soundness a table that breaks it, and a neighbour that is sound
   pub fact-by-fact : (f : Fact) → map answered (tables f) ≡ map expected (tables f)
-
--- what a worked case says, by its name
-abbrev Says : {A : Type 0} → A → Type 0
-Says {A} a = A
 
 -- the bytes of a table and its numbers say the same
 pub record OfBytes : Type 0 where
@@ -116,6 +130,8 @@ pub record OfSoundness : Type 0 where
 pub record OfCodes : Type 0 where
   -- each call's codes, as they are asked
   pub listed : CodesListed
+  -- every call's list follows the one order of all codes
+  pub in-order : FollowsOrder
   -- a code is answered exactly when it is given, 0 and 11 exactly when none is
   pub given : GivenExactly
   pub accepted : AcceptedExactly
@@ -139,6 +155,31 @@ pub record OfDrain : Type 0 where
   pub pending : PendingBounded
   pub enough : BudgetEnough
 
+-- touch records, the cold list and touch
+pub record OfTouches : Type 0 where
+  -- a record's bits, put together and taken apart; "any other form is malformed"
+  pub touch-back : TouchBack
+  pub formed-exactly : FormedExactly
+  -- "age is now minus hour, modulo 65,536", and every age is fresh, cold or ahead
+  pub age-adds : AgeAdds
+  pub aged-exactly : AgedExactly
+  -- what the list makes of every entry
+  pub kind-exactly : KindExactly
+  -- the keys of a kind, each once and ascending; the list is the cold ones, and zeros
+  pub kinds-listed : KindsListed
+  pub list-filled : ListFilled
+  -- an accepted list counts three kinds, and is a get of every key; over the host edge it writes the list, or leaves it
+  pub cold-answers : ColdAnswers
+  pub cold-is-gets : ColdIsGets
+  pub cold-hosts : ColdHosts
+  pub list-written : ListWritten
+  -- the record that a touch puts
+  pub touched-says : TouchedSays
+  -- an accepted touch is its get and then its put
+  pub touch-is-both : TouchIsBoth
+  -- a touch by the backup scan or by migration changes no key's coldness at its site
+  pub scan-keeps-coldness : ScanKeepsColdness
+
 -- the text of a schedule's run
 pub record OfListings : Type 0 where
   -- "what follows them is ignored"; every listing ends in an `end` or a `cut` line
@@ -154,4 +195,5 @@ pub record Claims : Type 1 where
   pub soundness : OfSoundness
   pub codes : OfCodes
   pub drain : OfDrain
+  pub touches : OfTouches
   pub listings : OfListings

@@ -37,20 +37,10 @@ on-bytes {s} {S} F (one-more {made = made} {R = R} D o z) =
     )
 
 pub drain-bytes : (t : List ℕ) → Bytes t → length t ≡ table .width → (s b : ℕ)
-    → let r = run (stateOf t) (Drain s b) in Delivered s t (r .answer .clock) (bytesOf (r .after))
-unfolding step beside
+    → let r = step (stateOf t) (Drain s b) in Delivered s t (r .answer .clock) (bytesOf (r .after))
+unfolding step
 drain-bytes t B h s b =
-    ⊎-elim (λ p. rw (p .1) (subst (λ (u : List ℕ). Delivered s u (drain S s b .answer .clock) (bytesOf (drain S s b .after))) back its))
-    (λ p. rw (p .1) (subst (λ (u : List ℕ). Delivered s t 0 u) (sym back) none))
-    (run-cases S (Drain s b))
-  where
-    S : State
-    S = stateOf t
-
-    back : bytesOf S ≡ t
-    back = bytes-back t h B
-
-    its : Delivered s (bytesOf S) (drain S s b .answer .clock) (bytesOf (drain S s b .after))
-    its =
-        let d = drain-delivers S s b in
-        rw (d .1) (on-bytes (state-fits t h B) (d .0) .1)
+    let S = stateOf t in
+    let d = drain-delivers S s b in
+    subst (λ (u : List ℕ). Delivered s u (drain S s b .answer .clock) (bytesOf (drain S s b .after))) (bytes-back t h B)
+    (rw (d .1) (on-bytes (state-fits t h B) (d .0) .1))

@@ -8,9 +8,9 @@ use lib.ListN.{length}
 use Rattle.clock.specs.Lists.{_∈_}
 use Rattle.layout.specs.State.{table, stateOf}
 use Rattle.rules.specs.Steps.{opened}
-use Rattle.rules.specs.Calls.{Call, Open, Put, Get, Deliver, Drain, Served, serve}
+use Rattle.rules.specs.Calls.{Call, Open, Put, Get, Deliver, Drain, refusals, step, Served, serve}
 use Rattle.rules.specs.Cases.{rules}
-use Rattle.laws.proofs.Codes.{open-accepted}
+use Rattle.laws.proofs.Ready.{open-ready}
 use Rattle.causal.specs.World.{wrote, put, get, update}
 use Rattle.causal.specs.History.{History, Cause, direct}
 use Rattle.causal.specs.Refines.{Causal}
@@ -18,7 +18,7 @@ use Rattle.causal.proofs.Tracing.{played}
 use Rattle.demands.specs.Demands.{play}
 use Rattle.demands.specs.Schedule.{schedule, by-hand}
 use Rattle.laws.proofs.Fitting.{open-fits}
-use Rattle.laws.proofs.Outcomes.{serve-long}
+use Rattle.laws.proofs.Serving.{asks-long, serve-step}
 use Rattle.demands.proofs.Serving.{play-is}
 use Rattle.demands.proofs.Proved.{opens, demand3}
 use Rattle.causal.proofs.Sites.{clash}
@@ -46,7 +46,8 @@ on-numbers = refl
 -- on any buffer of the table's size
 module _ (t : List ℕ) (size : length t ≡ table .width) where
   accepted : serve t (Open 3 4) .answer .code ≡ 0
-  accepted = ap (λ (r : Served). r .answer .code) (serve-long t (Open 3 4) size) ∙ open-accepted (stateOf t) 3 4 .1 (record { sites = omega arith; keys = omega arith })
+  unfolding step refusals
+  accepted = ap (λ (r : Served). r .answer .code) (serve-step t (Open 3 4) (asks-long t (Open 3 4) size ∙ open-ready 3 4 .1 (record { sites = omega arith; keys = omega arith })))
 
   pub history : play (serve t (Open 3 4) .bytes) [] schedule .1 ≡ by-hand
   history =

@@ -12,12 +12,13 @@ use Rattle.causal.specs.History.{History}
 use Rattle.causal.specs.Refines.{after-call}
 use Rattle.causal.proofs.Tracing.{played}
 use Rattle.demands.specs.Demands.{play}
-use Rattle.laws.proofs.Outcomes.{served, serve-long}
+use Rattle.layout.proofs.Whole.{state-bytes}
+use Rattle.laws.proofs.Serving.{served, serve-long}
 use Rattle.laws.proofs.Fitting.{run-fits}
 
 module _ (S : State) (F : Fits S) where
   pub serve-state : (c : Call) → serve (bytesOf S) c ≡ served (run S c)
-  serve-state c = serve-long (bytesOf S) c (bytes-long S F) ∙ ap (λ (R : State). served (run R c)) (state-back S F)
+  serve-state c = serve-long (bytesOf S) c (bytes-long S F) (state-bytes S .1) ∙ ap (λ (R : State). served (run R c)) (state-back S F)
 
 -- calls on bytes are calls on the state
 pub play-is : (S : State) → Fits S → (h : History) (cs : List Call) → ((s x v : ℕ) → Put s x v ∈ cs → v < 256 ^ 4)

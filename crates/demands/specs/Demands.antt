@@ -21,9 +21,9 @@ pub data Delivered (s : ℕ) (t : List ℕ) : ℕ → List ℕ → Type 0 where
   next : {m : ℕ} {u : List ℕ} → Delivered s t m u → (o : ℕ) → serve u (Deliver s o) .answer .code ≡ 0
       → Delivered s t (suc m) (serve u (Deliver s o) .bytes)
 
--- a call on a buffer, under document 01's conditions in order, the size of the buffer first
+-- a call on a buffer, under the conditions in their order: 14, then the size of the buffer, then the table's
 pub record Answered (t : List ℕ) (c : Call) (r : Served) : Type 0 where
-  -- a code but 0 and 11 is answered exactly when its condition holds and that of no lower code does
+  -- a code but 0 and 11 is answered exactly when its condition holds and none asked before it does
   pub given : (e : ℕ) → e ≢ 0 → e ≢ 11 → (r .answer .code ≡ e) ↔ Given (asks t c) e
   -- 0 and 11 exactly when no condition holds, by whether a drain's budget is enough
   pub accepted : (r .answer .code ≡ 0) ↔ (Clear (asks t c) × Enough (stateOf t) c)

@@ -2,10 +2,9 @@
 ghost use mathlib.Core.Path.{_≡_};
 ghost use Prim.Native.Nat.{_≤_, _<_, _+_};
 ghost use Rattle.layout.specs.State.{stateOf};
-ghost use Rattle.rules.specs.Refusals.{first};
 ghost use Rattle.rules.specs.Drain.{skip, turn, drain};
-ghost use Rattle.rules.specs.Calls.{Drain, asks};
-ghost use Rattle.table.specs.Answers.{codeOf, numbersOf, served, Promise};
+ghost use Rattle.rules.specs.Calls.{Drain};
+ghost use Rattle.table.specs.Answers.{numbersOf, served, Promise};
 ghost use Rattle.drain.specs.Turns.{turnOf, Drains};
 use table::Answer;
 use table::Refusal;
@@ -51,22 +50,6 @@ fn next_turn(n: usize, s: usize, o: usize, delivered: bool) -> Turn
     }
 }
 
-fn drain_refusal(t: &[u8], s: usize) -> Refusal
-    ensures { λ r. ⌜ codeOf r ≡ first (asks (now (t .entry)) (Drain s 0)) ⌝ }
-{
-    let why = table::table_refusal(t);
-    match why {
-        Refusal::Nothing => {
-            let h = layout::read_header(t);
-            if layout::wide_byte(h.n) <= s {
-                return Refusal::Site;
-            }
-            Refusal::Nothing
-        }
-        _ => why,
-    }
-}
-
 // The tries made are counted one for each delivery attempted; when one is due and the budget is spent it stops.
 fn passes(t: &mut [u8], n: usize, s: usize, budget: u16) -> Answer
     requires { ⌜ Drains (now t) n s ⌝ }
@@ -104,7 +87,7 @@ fn passes(t: &mut [u8], n: usize, s: usize, budget: u16) -> Answer
 pub fn drain(t: &mut [u8], s: usize, budget: u16) -> Answer
     ensures { λ r. ⌜ Promise (now (t .entry)) (Drain s budget) (served r (now (t .exit))) ⌝ }
 {
-    let why = drain_refusal(t, s);
+    let why = table::site_refusal(t, s);
     match why {
         Refusal::Nothing => {
             let h = layout::read_header(t);

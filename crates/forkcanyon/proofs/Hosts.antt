@@ -1,25 +1,36 @@
 -- The promise of a call from the host: where the reply is not 12 bytes, and where the call is made. Assumes nothing.
-use mathlib.Core.Path.{_≡_, ap, _∙_}
-use mathlib.Core.List.{List}
+use mathlib.Core.Path.{_≡_, refl, ap, _∙_}
+use mathlib.Core.Bool.{true, false}
+use mathlib.Core.List.{List, [], _∷_}
 use mathlib.Core.Logic.{_≢_}
 use Prim.Native.Nat.{ℕ}
 use lib.ListN.{length}
 use borrow.Author.Tests.{eq-eqb, ne-eqb}
 use Rattle.rules.specs.Steps.{Numbers}
-use Rattle.rules.specs.Calls.{Call, Served}
+use Rattle.rules.specs.Refusals.{Refusals, first, cold-words}
+use Rattle.laws.proofs.Given.{Avoids}
+use Rattle.rules.specs.Calls.{Call, words, Served, Listed}
 use Rattle.table.specs.declared.Answer.{Answer}
 use Rattle.table.specs.Answers.{numbersOf, served, Promise as Promised}
+use Rattle.cold.specs.Listing.{listed, Promise as Listing}
 use Rattle.numbers.specs.declared.Five.{Five}
-use Rattle.forkcanyon.specs.Host.{replyBytes, Hosted, left, replyOf, host, Promise}
+use Rattle.forkcanyon.specs.Host.{replyBytes, Hosted, left, replyOf, unsized, host, Promise}
 use Rattle.numbers.specs.Five.{fiveOf}
-use Rattle.forkcanyon.specs.Told.{Replied}
+use Rattle.forkcanyon.specs.ColdHost as cold
+use Rattle.forkcanyon.specs.Told.{Replied, behind}
 
 -- what is left where a call is made
 hosted : Served → Hosted
 hosted w = left (w .answer .code) (w .bytes) (replyOf (w .answer))
 
+-- some conditions, and 1 behind them
+pub behind-words : (ps : Refusals) → Avoids 0 ps → behind (first ps) ≡ unsized ps
+behind-words [] a = refl
+behind-words ((c, true) ∷ ps) a = rw (ne-eqb c 0 (a .0))
+behind-words ((c, false) ∷ ps) a = behind-words ps (a .1)
+
 module _ (t r : List ℕ) (c : Call) where
-  pub hosts-nothing : length r ≢ replyBytes → Promise t r c (left 1 t r)
+  pub hosts-nothing : length r ≢ replyBytes → Promise t r c (left (unsized (words c)) t r)
   unfolding host
   hosts-nothing h = rw (ne-eqb (length r) replyBytes h)
 
@@ -30,3 +41,18 @@ module _ (t r : List ℕ) (c : Call) where
   hosts-call {t′ = t′} a x h s n w =
       rw (eq-eqb (length r) replyBytes h)
       ((λ i. left (w .returned i) t′ (w .written i)) ∙ ap (λ (y : Numbers). left (y .code) t′ (replyOf y)) n ∙ ap hosted s)
+
+-- ## The cold list
+
+module _ (t l r : List ℕ) (s hour T : ℕ) where
+  pub lists-nothing : length r ≢ replyBytes → cold.Promise t l r s hour T (cold.left (unsized (cold-words hour T (length l))) t l r)
+  unfolding cold.host
+  lists-nothing h = rw (ne-eqb (length r) replyBytes h)
+
+  pub lists-call : {code : ℕ} {t′ l′ r′ : List ℕ} (a : Answer) (x : Five) → length r ≡ replyBytes → Listing t l s hour T (listed a t′ l′) → fiveOf x ≡ numbersOf a
+      → Replied code r′ (fiveOf x) → cold.Promise t l r s hour T (cold.left code t′ l′ r′)
+  unfolding cold.host
+  lists-call {t′ = t′} {l′ = l′} a x h s n w =
+      rw (eq-eqb (length r) replyBytes h)
+      ((λ i. cold.left (w .returned i) t′ l′ (w .written i)) ∙ ap (λ (y : Numbers). cold.left (y .code) t′ l′ (replyOf y)) n
+      ∙ ap (λ (o : Listed). cold.left (o .answer .code) (o .bytes) (o .list) (replyOf (o .answer))) s)

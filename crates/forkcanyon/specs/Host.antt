@@ -1,6 +1,7 @@
 -- What a call from a C program returns, and what it leaves in the two buffers. Assumes nothing.
 use mathlib.Core.Path.{_≡_, refl}
-use mathlib.Core.List.{List}
+use mathlib.Core.Bool.{true}
+use mathlib.Core.List.{List, [], _∷_, _++_}
 use Prim.Native.Nat.{ℕ}
 use lib.Dec.{eqb}
 use lib.ListN.{length}
@@ -8,7 +9,8 @@ use Rattle.clock.specs.Map.{if_then_else_}
 use Rattle.layout.specs.Codec.{Codec, number, _then_}
 use Rattle.layout.specs.State.{byte, value, clock}
 use Rattle.rules.specs.Steps.{Numbers}
-use Rattle.rules.specs.Calls.{Call, serve}
+use Rattle.rules.specs.Refusals.{Refusals, first}
+use Rattle.rules.specs.Calls.{Call, words, serve}
 
 -- "The reply is 12 bytes: code, key, site, zero, clock (2), two zeros, value (4)"
 abbrev pub reply : Codec (ℕ × (ℕ × (ℕ × (ℕ × (ℕ × (ℕ × ℕ))))))
@@ -32,11 +34,15 @@ pub record Hosted : Type 0 where
 abbrev pub left : (code : ℕ) (table reply : List ℕ) → Hosted
 left c t r = record { code = c; table = t; reply = r }
 
+-- 1, unless a 14 applies, which comes "first of all"
+abbrev pub unsized : Refusals → ℕ
+unsized words = first (words ++ ((1, true) ∷ []))
+
 -- "If the reply buffer is not 12 bytes, neither buffer is written and 1 comes back"
 unfoldable pub host : (table reply : List ℕ) → Call → Hosted
 host t r c =
     let w = serve t c in
-    if eqb (length r) replyBytes then left (w .answer .code) (w .bytes) (replyOf (w .answer)) else left 1 t r
+    if eqb (length r) replyBytes then left (w .answer .code) (w .bytes) (replyOf (w .answer)) else left (unsized (words c)) t r
 
 -- the promise of every call from a C program: it returns and leaves in both buffers what `host` says
 abbrev pub Promise : (table reply : List ℕ) → Call → Hosted → Type 0

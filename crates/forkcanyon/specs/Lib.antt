@@ -1,5 +1,7 @@
 pub mod Host
 pub mod Told
+pub mod ColdHost
 pub mod NoSecond
+pub mod ColdNoSecond
 pub mod Worked
 pub mod Theorems

@@ -2,7 +2,7 @@
 use mathlib.Core.Path.{_≡_, refl, sym, _∙_}
 use mathlib.Core.List.{List}
 use Prim.Native.Nat.{ℕ, min}
-use Rattle.rules.specs.Calls.{Call, Open, Put, Get, Deliver, Drain}
+use Rattle.rules.specs.Calls.{Call, Open, Put, Get, Deliver, Drain, Touch}
 use Rattle.forkcanyon.specs.Host.{Hosted, host, Promise, mostTries}
 
 abbrev pub NoSecond : Call → Type 0
@@ -28,3 +28,6 @@ fc-deliver-no-second s o = no-second (Deliver s o)
 
 pub fc-drain-no-second : (site budget : ℕ) → NoSecond (Drain site (min budget mostTries)) × One (Drain site (min budget mostTries))
 fc-drain-no-second s b = no-second (Drain s (min b mostTries))
+
+pub fc-touch-no-second : (site key hour toucher tier : ℕ) → NoSecond (Touch site key hour toucher tier) × One (Touch site key hour toucher tier)
+fc-touch-no-second s x hour u r = no-second (Touch s x hour u r)

@@ -1,13 +1,17 @@
-// The five calls as a C program makes them: with numbers, the table's bytes and a reply of 12 bytes. Host numbers are
+// The calls as a C program makes them: with numbers, the table's bytes and a reply of 12 bytes. Host numbers are
 // 64 bits wide, so that none is cut on the way in; the value is 32.
 ghost use mathlib.Core.Path.{_≡_};
 ghost use Prim.Native.Nat.{min};
 ghost use lib.ListN.{length};
-ghost use Rattle.rules.specs.Calls.{Open, Put, Get, Deliver, Drain};
+ghost use Rattle.rules.specs.Calls.{Open, Put, Get, Deliver, Drain, Touch};
 ghost use Rattle.forkcanyon.specs.Host.{replyBytes, replyOf, left, Promise, mostTries};
 ghost use Rattle.numbers.specs.Five.{fiveOf};
-ghost use Rattle.forkcanyon.specs.Told.{Replied};
+ghost use Rattle.forkcanyon.specs.Told.{Replied, behind};
+ghost use Rattle.table.specs.Answers.{codeOf};
 use numbers::Five;
+use table::Refusal;
+
+pub mod cold_list;
 
 pub struct Reply {}
 
@@ -37,12 +41,22 @@ fn write_reply(reply: &mut [u8], code: u8, key: u8, site: u8, clock: u16, value:
 }
 
 // The reply is written whole, whatever the answer, and its code comes back.
-fn answer(reply: &mut [u8], x: Five) -> u32
+pub fn answer(reply: &mut [u8], x: Five) -> u32
     requires { ⌜ length (now reply) ≡ replyBytes ⌝ }
     ensures { λ r. ⌜ Replied r (now (reply .exit)) (fiveOf x) ⌝ }
 {
     write_reply(reply, x.code, x.key, x.site, x.clock, x.value);
     x.code as u32
+}
+
+// A reply of another size: 14 where the call's own numbers are refused, else 1.
+pub fn wrong_size(words: Refusal) -> u32
+    ensures { λ r. ⌜ r ≡ behind (codeOf words) ⌝ }
+{
+    match words {
+        Refusal::Nothing => Reply::WRONG_SIZE,
+        _ => table::refusal_code(words) as u32,
+    }
 }
 
 #[no_mangle]
@@ -114,5 +128,31 @@ pub extern "C" fn fc_drain(site: u64, budget: u64, table: &mut [u8], reply: &mut
         return Reply::WRONG_SIZE;
     }
     let a = drain::drain(table, site as usize, tries_allowed(budget));
+    answer(reply, numbers::numbers_of(a))
+}
+
+#[no_mangle]
+pub extern "C" fn fc_touch(
+    site: u64,
+    key: u64,
+    hour: u64,
+    toucher: u64,
+    tier: u64,
+    table: &mut [u8],
+    reply: &mut [u8],
+) -> u32
+    ensures { λ r. ⌜ Promise (now (table .entry)) (now (reply .entry)) (Touch site key hour toucher tier) (left r (now (table .exit)) (now (reply .exit))) ⌝ }
+{
+    if reply.len() != Reply::BYTES {
+        return wrong_size(touch::words_refusal(hour as usize, toucher as usize, tier as usize));
+    }
+    let a = touch::touch(
+        table,
+        site as usize,
+        key as usize,
+        hour as usize,
+        toucher as usize,
+        tier as usize,
+    );
     answer(reply, numbers::numbers_of(a))
 }

@@ -1,5 +1,5 @@
 -- Every call leaves a sound table sound, and an accepted one leaves no other. Assumes nothing.
-use mathlib.Core.Path.{_≡_, refl, sym, subst}
+use mathlib.Core.Path.{_≡_, refl, sym, ap, subst}
 use mathlib.Core.Bool.{false}
 use mathlib.Core.List.{[]}
 use mathlib.Core.Logic.{⊎-elim, _≢_}
@@ -8,14 +8,15 @@ use lib.Dec.{eqb}
 use Rattle.clock.proofs.Maps.{choice}
 use Rattle.layout.specs.State.{State}
 use Rattle.rules.specs.Sound.{Sound}
-use Rattle.rules.specs.Steps.{Outcome, put, get, learn, deliver}
+use Rattle.rules.specs.Steps.{Outcome, put, get, learn, deliver, touch, cold}
 use Rattle.rules.specs.Refusals.{first}
 use Rattle.rules.specs.Drain.{turn, drained, drain}
-use Rattle.rules.specs.Calls.{Call, Open, Put, Get, Deliver, Drain, refusals, step, run}
+use Rattle.rules.specs.Calls.{Call, Open, Put, Get, Deliver, Drain, Cold, Touch, refusals, step, run}
 use Rattle.laws.specs.Theorems.{AcceptedSound, KeepsSound}
-use Rattle.laws.proofs.Ready.{open-ready, put-ready, get-ready, deliver-ready, drain-ready}
+use Rattle.laws.proofs.Ready.{open-ready, put-ready, get-ready, deliver-ready, drain-ready, cold-ready, touch-ready}
 use Rattle.laws.proofs.Given.{run-cases, run-accepted}
 use Rattle.laws.proofs.Keeps.{open-sound, put-sound, get-sound, deliver-sound}
+use Rattle.laws.proofs.Touching.{Apart, learn-apart, learnAll-apart, cold-sound, touch-sound}
 use Rattle.laws.proofs.Draining.{by-deliveries}
 
 -- what holds of the table and of the one after a step
@@ -45,6 +46,8 @@ step-sound S (Put s x v) z = put-sound S s x v (put-ready S s x .0 z)
 step-sound S (Get s x) z = get-sound S s x (get-ready S s x .0 z .sound)
 step-sound S (Deliver s o) z = deliver-sound S s o (deliver-ready S s o .0 z)
 step-sound S (Drain s b) z = drained-sound S s b (drain-ready S s .0 z .sound)
+step-sound S (Cold s now T m) z = cold-sound S s now T (cold-ready S s now T m z .sound)
+step-sound S (Touch s x now u r) z = touch-sound S s x now u r (touch-ready S s x now u r z .put)
 
 pub accepted-sound : AcceptedSound
 accepted-sound S c z =
@@ -68,13 +71,18 @@ drained-counts S₀ s b =
     (λ b S o d ds t r z f D. f D)
     b S₀ (turn (S₀ .n) s 0 false) [] 0 (refl, refl)
 
+apart-counts : (S T : State) → Apart S T → SameCounts S T
+apart-counts S T p = (ap (λ (R : State). R .n) (p .1), ap (λ (R : State). R .k) (p .1))
+
 step-counts : (S : State) (c : Call) → ((n k : ℕ) → c ≢ Open n k) → SameCounts S (step S c .after)
-unfolding step put get learn deliver drain
+unfolding step put get learn deliver drain touch cold
 step-counts S (Open n k) h = absurd (h n k refl)
 step-counts S (Put s x v) h = (refl, refl)
 step-counts S (Get s x) h = choice (eqb (S .store s x .clock) 0) (SameCounts S) (λ e. (refl, refl)) (λ e. (refl, refl))
 step-counts S (Deliver s o) h = (refl, refl)
 step-counts S (Drain s b) h = drained-counts S s b
+step-counts S (Cold s now T m) h = apart-counts S _ (learnAll-apart S s (S .k))
+step-counts S (Touch s x now u r) h = apart-counts S _ (learn-apart S s x)
 
 -- only open changes them
 pub counts-kept : (S : State) (c : Call) → ((n k : ℕ) → c ≢ Open n k) → SameCounts S (run S c .after)

@@ -1,31 +1,32 @@
 -- Each code is answered exactly when document 01 gives it, and with the numbers it says. Assumes nothing.
 use mathlib.Core.Path.{_≡_, refl, sym, ap, subst, _∙_}
-use mathlib.Core.Bool.{false}
 use mathlib.Core.Logic.{_⊎_, inl, inr, ⊎-elim, _≢_, _↔_, Iff·trans}
 use Prim.Native.Nat.{ℕ, _≤_, _<_}
 use native.Mathlib.Omega.{arith}
 use borrow.Author.Tests.{ne-eqb}
-use Rattle.clock.proofs.Maps.{both, le?}
+use Rattle.clock.proofs.Maps.{le?}
 use Rattle.clock.proofs.Below.{least-is}
 use Rattle.layout.specs.State.{State}
-use Rattle.rules.specs.Steps.{Outcome, refused, put, get, deliver}
-use Rattle.rules.specs.Refusals.{first, open-refusals, put-refusals, get-refusals, deliver-refusals, drain-refusals, missing}
+use Rattle.rules.specs.Steps.{Outcome, refused, put, get, deliver, touch, cold}
+use Rattle.rules.specs.Refusals.{first, missing}
 use Rattle.rules.specs.Drain.{Drained, drained, drain}
-use Rattle.rules.specs.Calls.{Call, Open, Put, Get, Deliver, Drain, refusals, beside, step, run}
-use Rattle.laws.specs.Theorems.{condition, Clear, needed, Enough, Spent, GivenExactly, AcceptedExactly, SpentExactly, RefusedKeeps, RefusedZeros, LowestMissing, MissingNamed}
-use Rattle.laws.proofs.Ready.{OpenReady, DrainReady, open-ready, drain-ready}
-use Rattle.laws.proofs.Given.{first-given, first-clear, ascends, run-cases, run-refused, run-accepted}
+use Rattle.rules.specs.Calls.{Call, Open, Put, Get, Deliver, Drain, Cold, Touch, refusals, beside, step, run}
+use Rattle.laws.specs.Theorems.{Clear, needed, Enough, Spent, GivenExactly, AcceptedExactly, SpentExactly, RefusedKeeps, RefusedZeros, LowestMissing, MissingNamed}
+use Rattle.laws.proofs.Ready.{OpenReady, DrainReady, open-ready, deliver-ten, drain-ready}
+use Rattle.laws.proofs.Given.{first-given, refusals-clear, no-eleven, run-cases, run-refused, run-accepted}
 use Rattle.laws.proofs.Draining.{drained-code, tries-within, drained-same, drained-later}
 use Rattle.laws.proofs.Tries.{budget-enough}
 
 -- a step answers 0, or a drain's step 11
-step-code : (S : State) (c : Call) → (step S c .answer .code ≡ 0) ⊎ (step S c .answer .code ≡ 11)
-unfolding step put get deliver drain
+pub step-code : (S : State) (c : Call) → (step S c .answer .code ≡ 0) ⊎ (step S c .answer .code ≡ 11)
+unfolding step put get deliver drain touch cold
 step-code S (Open n k) = inl refl
 step-code S (Put s x v) = inl refl
 step-code S (Get s x) = inl refl
 step-code S (Deliver s o) = inl refl
 step-code S (Drain s b) = ⊎-elim inl (λ q. inr (q .0)) (drained-code S s b)
+step-code S (Cold s now T m) = inl refl
+step-code S (Touch s x now u r) = inl refl
 
 -- a refusal other than 11 is the first condition that holds
 pub turned-down : (S : State) (c : Call) (e : ℕ) → e ≢ 0 → e ≢ 11 → run S c .answer .code ≡ e
@@ -45,30 +46,31 @@ pub code-first : (S : State) (c : Call) (e : ℕ) → e ≢ 0 → e ≢ 11 → (
 code-first S c e z y = ((λ q. turned-down S c e z y q .0), λ (q : first (refusals S c) ≡ e). run-refused S c (λ f. z (sym q ∙ f)) ∙ q)
 
 pub given-exactly : GivenExactly
-given-exactly S c e z y = Iff·trans (code-first S c e z y) (first-given 0 (refusals S c) (ascends S c) e z)
+given-exactly S c e z y = Iff·trans (code-first S c e z y) (first-given (refusals S c) e z)
 
 pub refused-keeps : RefusedKeeps
 refused-keeps S c z y = ap (λ (r : Outcome). r .after) (turned-down S c _ z y refl .1)
 
 -- ## Numbers beside a code
 
-beside-zeros : (S : State) (c : Call) (e : ℕ) → e ≢ 10 → beside S c e ≡ refused e
+pub beside-zeros : (S : State) (c : Call) (e : ℕ) → e ≢ 10 → beside S c e ≡ refused e
 unfolding beside
 beside-zeros S (Open n k) e h = refl
 beside-zeros S (Put s x v) e h = refl
 beside-zeros S (Get s x) e h = refl
 beside-zeros S (Deliver s o) e h = rw (ne-eqb e 10 h)
 beside-zeros S (Drain s b) e h = refl
+beside-zeros S (Cold s now T m) e h = refl
+beside-zeros S (Touch s x now u r) e h = refl
 
 pub refused-zeros : RefusedZeros
 refused-zeros S c e z y x q = ap (λ (r : Outcome). r .answer) (turned-down S c e z x q .1) ∙ beside-zeros S c e y
 
 pub missing-named : MissingNamed
-unfolding refusals deliver-refusals beside
+unfolding refusals beside
 missing-named S s o q =
     let t = turned-down S (Deliver s o) 10 (omega arith) (omega arith) q in
-    let g = first-given 0 (refusals S (Deliver s o)) (ascends S (Deliver s o)) 10 (omega arith) .0 (t .0) in
-    let l = least-is (missing S s o) 8 (g .holds) in
+    let l = least-is (missing S s o) 8 (deliver-ten S s o .0 (t .0) .1 .1 .1 .1) in
     subst (λ (r : Outcome). LowestMissing S s o (r .answer)) (sym (t .1))
     (record { column = l .0; fails = l .1; lowest = l .2; clock = refl; others = (refl, refl) })
 
@@ -99,30 +101,25 @@ module _ (S : State) (s b : ℕ) (R : DrainReady S s) where
 
 -- ## The codes of a step
 
-step-enough : (S : State) (c : Call) → first (refusals S c) ≡ 0 → (step S c .answer .code ≡ 0) ↔ Enough S c
-unfolding step put get deliver drain refusals
+pub step-enough : (S : State) (c : Call) → first (refusals S c) ≡ 0 → (step S c .answer .code ≡ 0) ↔ Enough S c
+unfolding step put get deliver drain touch cold refusals
 step-enough S (Open n k) z = ((λ q. tt), λ q. refl)
 step-enough S (Put s x v) z = ((λ q. tt), λ q. refl)
 step-enough S (Get s x) z = ((λ q. tt), λ q. refl)
 step-enough S (Deliver s o) z = ((λ q. tt), λ q. refl)
 step-enough S (Drain s b) z = budget-enough-exactly S s b (drain-ready S s .0 z)
+step-enough S (Cold s now T m) z = ((λ q. tt), λ q. refl)
+step-enough S (Touch s x now u r) z = ((λ q. tt), λ q. refl)
 
-step-spent : (S : State) (c : Call) → first (refusals S c) ≡ 0 → (step S c .answer .code ≡ 11) ↔ Spent S c
-unfolding step put get deliver drain refusals
+pub step-spent : (S : State) (c : Call) → first (refusals S c) ≡ 0 → (step S c .answer .code ≡ 11) ↔ Spent S c
+unfolding step put get deliver drain touch cold refusals
 step-spent S (Open n k) z = ((λ q. omega arith), absurd)
 step-spent S (Put s x v) z = ((λ q. omega arith), absurd)
 step-spent S (Get s x) z = ((λ q. omega arith), absurd)
 step-spent S (Deliver s o) z = ((λ q. omega arith), absurd)
 step-spent S (Drain s b) z = budget-spent-exactly S s b (drain-ready S s .0 z)
-
--- no list has 11
-unlisted-11 : (S : State) (c : Call) → condition (refusals S c) 11 ≡ false
-unfolding refusals open-refusals put-refusals get-refusals deliver-refusals drain-refusals
-unlisted-11 S (Open n k) = refl
-unlisted-11 S (Put s x v) = refl
-unlisted-11 S (Get s x) = refl
-unlisted-11 S (Deliver s o) = refl
-unlisted-11 S (Drain s b) = refl
+step-spent S (Cold s now T m) z = ((λ q. omega arith), absurd)
+step-spent S (Touch s x now u r) z = ((λ q. omega arith), absurd)
 
 -- a code that no refusal has
 steps-exactly : (S : State) (c : Call) (e : ℕ) (Q : Type 0) → (first (refusals S c) ≢ 0 → first (refusals S c) ≢ e)
@@ -130,30 +127,24 @@ steps-exactly : (S : State) (c : Call) (e : ℕ) (Q : Type 0) → (first (refusa
 steps-exactly S c e Q h f = (
   (λ q.
       ⊎-elim
-      (λ p. (clear .0 (p .0), f (p .0) .0 (sym (ap code (p .1)) ∙ q)))
+      (λ p. (refusals-clear S c .0 (p .0), f (p .0) .0 (sym (ap code (p .1)) ∙ q)))
       (λ p. absurd (h (p .0) (sym (run-refused S c (p .0)) ∙ q)))
       (run-cases S c)),
-  λ r. let z = clear .1 (r .0) in ⊎-elim (λ p. ap code (p .1) ∙ f z .1 (r .1)) (λ p. absurd (p .0 z)) (run-cases S c),
+  λ r. let z = refusals-clear S c .1 (r .0) in ⊎-elim (λ p. ap code (p .1) ∙ f z .1 (r .1)) (λ p. absurd (p .0 z)) (run-cases S c),
 )
   where
     code : Outcome → ℕ
     code r = r .answer .code
 
-    clear : (first (refusals S c) ≡ 0) ↔ Clear (refusals S c)
-    clear = first-clear 0 (refusals S c) (ascends S c)
-
 pub accepted-exactly : AcceptedExactly
 accepted-exactly S c = steps-exactly S c 0 (Enough S c) (λ z. z) (step-enough S c)
 
 pub spent-exactly : SpentExactly
-spent-exactly S c =
-    steps-exactly S c 11 (Spent S c)
-    (λ z q. both (first-given 0 (refusals S c) (ascends S c) 11 (omega arith) .0 q .holds) (unlisted-11 S c))
-    (step-spent S c)
+spent-exactly S c = steps-exactly S c 11 (Spent S c) (λ z. no-eleven S c) (step-spent S c)
 
 -- ## What an accepted call may rely on
 
-accepted-first : (S : State) (c : Call) → step S c .answer .code ≡ 0 → (run S c .answer .code ≡ 0) ↔ (first (refusals S c) ≡ 0)
+pub accepted-first : (S : State) (c : Call) → step S c .answer .code ≡ 0 → (run S c .answer .code ≡ 0) ↔ (first (refusals S c) ≡ 0)
 accepted-first S c h = (
   (λ z. run-accepted S c z .0),
   λ z. ⊎-elim (λ p. ap (λ (r : Outcome). r .answer .code) (p .1) ∙ h) (λ p. absurd (p .0 z)) (run-cases S c),

@@ -3,7 +3,7 @@ use mathlib.Core.Path.{_≡_, refl, sym, ap, subst, _∙_}
 use mathlib.Core.Bool.{false}
 use mathlib.Core.List.{List, []}
 use mathlib.Core.Logic.{⊎-elim}
-use Prim.Native.Nat.{ℕ, _^_, _<_}
+use Prim.Native.Nat.{ℕ, zero, suc, _^_, _≤_, _<_}
 use native.Mathlib.Omega.{arith}
 use lib.Dec.{eqb}
 use borrow.Author.Tests.{eqb-false}
@@ -17,14 +17,16 @@ use Rattle.layout.specs.State.{State, Entry, Update, ofEntry, ofUpdate, allZero
 use Rattle.layout.specs.Ranges.{Bytes, Rows, FitsVector, FitsFields, Fits}
 use Rattle.layout.proofs.TableTrips.{state-fits}
 use Rattle.layout.proofs.Zeros.{all-zero}
-use Rattle.rules.specs.Sound.{place}
+use Rattle.rules.specs.Sound.{place, Sound}
 use Rattle.rules.specs.Steps as r
-use Rattle.rules.specs.Steps.{opened, learn}
+use Rattle.rules.specs.Touch.{touchOf, keepsHour, touched}
+use Rattle.rules.specs.Steps.{opened, learn, learnAll}
 use Rattle.rules.specs.Drain.{drained, drain, turn}
 use Rattle.rules.specs.Refusals.{first}
-use Rattle.rules.specs.Calls.{Call, Open, Put, Get, Deliver, Drain, refusals, step, run}
-use Rattle.laws.proofs.Ready.{OpenReady, PutReady, GetReady, DeliverReady, open-ready, put-ready, get-ready, deliver-ready}
+use Rattle.rules.specs.Calls.{Call, Open, Put, Get, Deliver, Drain, Cold, Touch, refusals, step, run}
+use Rattle.laws.proofs.Ready.{OpenReady, PutReady, GetReady, DeliverReady, open-ready, put-ready, get-ready, deliver-ready, TouchReady, cold-ready, touch-ready}
 use Rattle.laws.proofs.Keeps.{get-origin, deliver-behind, deliver-waiting}
+use Rattle.laws.proofs.Touching.{learn-apart, learnAll-apart, apart-sound, apart-ready}
 use Rattle.laws.proofs.Draining.{by-deliveries}
 use Rattle.laws.proofs.After.{after-run}
 
@@ -135,6 +137,30 @@ module _ (S : State) (F : Fits S) where
       (g .0, (omega arith, (omega arith, (c, g .1 .1 .1 .1)))) in
       with-count _ E s o _ p q c
 
+-- gets of the keys below m
+learnAll-fits : (S : State) (s m : ℕ) → Sound S → s < S .n → m ≤ S .k → Fits S → Fits (learnAll S s m)
+unfolding learnAll r.get
+learnAll-fits S s zero D h l F = F
+learnAll-fits S s (suc m) D h l F =
+    let p = learnAll-apart S s m in
+    let R : GetReady (learnAll S s m) s m =
+    record { sound = apart-sound p D; site = rw (p .1) h; key = rw (p .1) (omega arith) } in
+    get-fits (learnAll S s m) (learnAll-fits S s m D h (omega arith) F) s m R
+
+-- a touch record is 4 bytes
+touched-fits : (S : State) (s x now u w : ℕ) → Fits S → TouchReady S s x now u w → touched (S .store s x .value) now u w < 256 ^ 4
+touched-fits S s x now u w F R =
+    let P = R .put in
+    let old : S .store s x .value < 256 ^ 4 = entry-fits S F s x (omega (arith, P .site, P .sound .sites)) (omega (arith, P .key, P .sound .keys)) .0 in
+    choice (keepsHour u) (λ (h : ℕ). touchOf h u w < 256 ^ 4) (λ e. omega (arith, R .toucher, R .tier)) (λ e. omega (arith, R .toucher, R .tier, R .now))
+
+touch-fits : (S : State) (s x now u w : ℕ) → Fits S → TouchReady S s x now u w → Fits (r.touch S s x now u w .after)
+unfolding r.touch r.get
+touch-fits S s x now u w F R =
+    let P = R .put in
+    let G : GetReady S s x = record { sound = P .sound; site = P .site; key = P .key } in
+    put-fits (learn S s x) (get-fits S F s x G) s x _ (apart-ready (learn-apart S s x) P) (touched-fits S s x now u w F R)
+
 drained-fits : (S : State) (s b : ℕ) → Fits S → Fits (drained S s b .after)
 unfolding drained
 drained-fits S s b =
@@ -159,12 +185,14 @@ pub deliver-sized : (s o : ℕ) → Sized (Deliver s o)
 deliver-sized s o s′ x′ v′ e = let z : _≡_ {A = ℕ} 0 1 = cc in omega arith
 
 step-fits : (S : State) (c : Call) → Sized c → Fits S → first (refusals S c) ≡ 0 → Fits (step S c .after)
-unfolding step drain refusals
+unfolding step drain r.cold refusals
 step-fits S (Open n k) h F z = open-fits n k (open-ready n k .0 z)
 step-fits S (Put s x v) h F z = put-fits S F s x v (put-ready S s x .0 z) (h s x v refl)
 step-fits S (Get s x) h F z = get-fits S F s x (get-ready S s x .0 z)
 step-fits S (Deliver s o) h F z = deliver-fits S F s o (deliver-ready S s o .0 z)
 step-fits S (Drain s b) h F z = drained-fits S s b F
+step-fits S (Cold s now T m) h F z = let R = cold-ready S s now T m z in learnAll-fits S s (S .k) (R .sound) (R .site) (omega arith) F
+step-fits S (Touch s x now u w) h F z = touch-fits S s x now u w F (touch-ready S s x now u w z)
 
 pub run-fits : (S : State) (c : Call) → Sized c → Fits S → Fits (run S c .after)
 run-fits S c h F = after-run S c Fits (step-fits S c h F) F

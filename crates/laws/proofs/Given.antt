@@ -1,19 +1,19 @@
--- A code is answered exactly when its condition holds and that of no lower one does. Assumes nothing.
-use mathlib.Core.Path.{_≡_, refl, sym, ap, subst, _∙_}
+-- A code is answered exactly when its condition holds and none listed before it does. Assumes nothing.
+use mathlib.Core.Path.{_≡_, refl, sym, ap, _∙_}
 use mathlib.Core.Bool.{Bool, true, false}
-use mathlib.Core.List.{[], _∷_}
-use mathlib.Core.Logic.{_⊎_, inl, inr, ⊎-elim, _≢_, _↔_, Iff·trans}
-use Prim.Native.Nat.{ℕ, _-_, _≤_, _<_}
+use mathlib.Core.List.{List, [], _∷_, _++_}
+use mathlib.Core.Logic.{_⊎_, inl, inr, ⊎-elim, _≢_, _↔_}
+use Prim.Native.Nat.{ℕ}
 use native.Mathlib.Omega.{arith}
 use lib.Dec.{eqb}
 use borrow.Author.Tests.{eqb-true, eq-eqb, ne-eqb}
-use Rattle.clock.proofs.Maps.{both, choice, at-is, at-same, eq?, le?}
+use Rattle.clock.proofs.Maps.{both, choice, eq?}
 use Rattle.clock.proofs.Says.{Says, Denies}
-use Rattle.layout.specs.State.{State}
+use Rattle.layout.specs.State.{State, stateOf}
 use Rattle.rules.specs.Steps.{Numbers, Outcome}
-use Rattle.rules.specs.Refusals.{Refusals, first, open-refusals, put-refusals, get-refusals, deliver-refusals, drain-refusals, unless}
-use Rattle.rules.specs.Calls.{Call, Open, Put, Get, Deliver, Drain, refusals, beside, step, run}
-use Rattle.laws.specs.Theorems.{condition, Given, Clear, CodesListed}
+use Rattle.rules.specs.Refusals.{Refusals, first, open-refusals, put-refusals, get-refusals, deliver-refusals, site-refusals, touch-refusals, unless}
+use Rattle.rules.specs.Calls.{Call, Open, Put, Get, Deliver, Drain, Cold, Touch, words, inside, refusals, beside, step, run, asks}
+use Rattle.laws.specs.Theorems.{Given, Clear, CodesListed, FollowsOrder}
 
 -- ## The first condition that holds
 
@@ -39,80 +39,119 @@ module _ (ps : Refusals) (numbers : ℕ → Numbers) (S : State) (step : Outcome
   pub unless-first : (e : ℕ) → first ps ≡ e → e ≢ 0 → unless ps numbers S step ≡ record { answer = numbers e; after = S }
   unless-first e h z = rw (h, ne-eqb e 0 z)
 
--- ## Lists of ascending codes
+-- ## What is given
 
--- the codes ascend from above b
-abbrev pub Ascends : ℕ → Refusals → Type 0
-Ascends b [] = Unit {0}
-Ascends b (p ∷ ps) = (b < p .0) × Ascends (p .0) ps
+pub first-given : (ps : Refusals) (e : ℕ) → e ≢ 0 → (first ps ≡ e) ↔ Given ps e
+first-given [] e h = ((λ q. absurd (h (sym q))), absurd)
+first-given ((c, true) ∷ ps) e h = ((λ q. inl (q, refl)), ⊎-elim (λ g. g .0) (λ g. both refl (g .0)))
+first-given ((c, false) ∷ ps) e h =
+    ((λ q. inr (refl, first-given ps e h .0 q)), ⊎-elim (λ g. both (g .1) refl) (λ g. first-given ps e h .1 (g .1)))
 
-unlisted : (b : ℕ) (ps : Refusals) → Ascends b ps → (e : ℕ) → e ≤ b → condition ps e ≡ false
-unlisted b [] a e h = refl
-unlisted b (p ∷ ps) a e h =
-    ⊎-elim (λ q. absurd (omega (arith, q .0, a .0))) (λ q. q .1 ∙ unlisted (p .0) ps (a .1) e (omega (arith, a .0))) (at-is (condition ps) (p .0) (p .1) e)
+-- the code is not listed
+abbrev pub Avoids : (code : ℕ) → Refusals → Type 0
+Avoids e [] = Unit {0}
+Avoids e (p ∷ ps) = (p .0 ≢ e) × Avoids e ps
 
--- where the first condition does not hold, the others say the same
-passed : (c : ℕ) (ps : Refusals) → Ascends c ps → (e : ℕ) → condition ((c, false) ∷ ps) e ≡ condition ps e
-passed c ps a e =
-    ⊎-elim
-    (λ q. q .1 ∙ sym (unlisted c ps a e (omega (arith, q .0))))
-    (λ q. q .1)
-    (at-is (condition ps) c false e)
+pub first-avoids : (e : ℕ) (ps : Refusals) → e ≢ 0 → Avoids e ps → first ps ≢ e
+first-avoids e [] z a q = z (sym q)
+first-avoids e ((c, true) ∷ ps) z a q = a .0 q
+first-avoids e ((c, false) ∷ ps) z a q = first-avoids e ps z (a .1) q
 
-pub first-given : (b : ℕ) (ps : Refusals) → Ascends b ps → (e : ℕ) → e ≢ 0 → (first ps ≡ e) ↔ Given ps e
-first-given b [] a e h = ((λ q. absurd (h (sym q))), λ g. both (g .holds) refl)
-first-given b ((c, true) ∷ ps) a e h = (
-  (λ q.
-      subst (Given ((c, true) ∷ ps)) q
-      (record { holds = at-same (condition ps) c true; lowest = λ d l. unlisted (c - 1) ((c, true) ∷ ps) (omega (arith, a .0), a .1) d (omega arith) })),
-  λ g.
-      ⊎-elim
-      (λ q. q .0)
-      (λ q. ⊎-elim
-      (λ (l : e ≤ c). both (sym (q .1) ∙ g .holds) (unlisted c ps (a .1) e l))
-      (λ (l : c < e). both (at-same (condition ps) c true) (g .lowest c l))
-      (le? e c))
-      (at-is (condition ps) c true e),
-)
-first-given b ((c, false) ∷ ps) a e h =
-    Iff·trans (first-given c ps (a .1) e h) (
-      (λ g. record { holds = passed c ps (a .1) e ∙ g .holds; lowest = λ d l. passed c ps (a .1) d ∙ g .lowest d l }),
-      λ g. record { holds = sym (passed c ps (a .1) e) ∙ g .holds; lowest = λ d l. sym (passed c ps (a .1) d) ∙ g .lowest d l },
-    )
-
-pub first-clear : (b : ℕ) (ps : Refusals) → Ascends b ps → (first ps ≡ 0) ↔ Clear ps
-first-clear b [] a = ((λ q e. refl), λ g. refl)
-first-clear b ((c, true) ∷ ps) a = ((λ (q : c ≡ 0). absurd (omega (arith, a .0))), λ g. both (at-same (condition ps) c true) (g c))
-first-clear b ((c, false) ∷ ps) a =
-    Iff·trans (first-clear c ps (a .1)) ((λ g e. passed c ps (a .1) e ∙ g e), λ g e. sym (passed c ps (a .1) e) ∙ g e)
+pub first-clear : (ps : Refusals) → Avoids 0 ps → (first ps ≡ 0) ↔ Clear ps
+first-clear [] a = ((λ q. tt), λ g. refl)
+first-clear ((c, true) ∷ ps) a = ((λ q. absurd (a .0 q)), λ g. both refl (g .0))
+first-clear ((c, false) ∷ ps) a = ((λ q. (refl, first-clear ps (a .1) .0 q)), λ g. first-clear ps (a .1) .1 (g .1))
 
 -- ## The lists of the calls
 
-pub ascends : (S : State) (c : Call) → Ascends 0 (refusals S c)
-unfolding refusals open-refusals put-refusals get-refusals deliver-refusals drain-refusals
-ascends S (Open n k) = omega arith
-ascends S (Put s x v) = omega arith
-ascends S (Get s x) = omega arith
-ascends S (Deliver s o) = omega arith
-ascends S (Drain s b) = omega arith
+-- none has 0 or 11
+abbrev pub Proper : Refusals → Type 0
+Proper ps = Avoids 0 ps × Avoids 11 ps
+
+append-proper : (ps qs : Refusals) → Proper ps → Proper qs → Proper (ps ++ qs)
+append-proper [] qs p q = q
+append-proper (c ∷ ps) qs p q = let r = append-proper ps qs (p .0 .1, p .1 .1) q in ((p .0 .0, r .0), (p .1 .0, r .1))
+
+pub words-proper : (c : Call) → Proper (words c)
+words-proper (Open n k) = (tt, tt)
+words-proper (Put s x v) = (tt, tt)
+words-proper (Get s x) = (tt, tt)
+words-proper (Deliver s o) = (tt, tt)
+words-proper (Drain s b) = (tt, tt)
+words-proper (Cold s now T m) = omega arith
+words-proper (Touch s x now u r) = omega arith
+
+inside-proper : (S : State) (c : Call) → Proper (inside S c)
+unfolding open-refusals put-refusals get-refusals deliver-refusals site-refusals touch-refusals
+inside-proper S (Open n k) = omega arith
+inside-proper S (Put s x v) = omega arith
+inside-proper S (Get s x) = omega arith
+inside-proper S (Deliver s o) = omega arith
+inside-proper S (Drain s b) = omega arith
+inside-proper S (Cold s now T m) = omega arith
+inside-proper S (Touch s x now u r) = omega arith
+
+pub refusals-proper : (S : State) (c : Call) → Proper (refusals S c)
+unfolding refusals
+refusals-proper S c = append-proper (words c) (inside S c) (words-proper c) (inside-proper S c)
+
+-- 1 is asked of the buffer alone
+pub no-one : (S : State) (c : Call) → first (refusals S c) ≢ 1
+unfolding refusals open-refusals put-refusals get-refusals deliver-refusals site-refusals touch-refusals
+no-one S c = first-avoids 1 (refusals S c) (omega arith) (avoids S c)
+  where
+    avoids : (S : State) (c : Call) → Avoids 1 (refusals S c)
+    avoids S (Open n k) = omega arith
+    avoids S (Put s x v) = omega arith
+    avoids S (Get s x) = omega arith
+    avoids S (Deliver s o) = omega arith
+    avoids S (Drain s b) = omega arith
+    avoids S (Cold s now T m) = omega arith
+    avoids S (Touch s x now u r) = omega arith
+
+pub asks-proper : (t : List ℕ) (c : Call) → Proper (asks t c)
+unfolding asks
+asks-proper t c =
+    let p = inside-proper (stateOf t) c in
+    append-proper (words c) _ (words-proper c) ((omega arith, p .0), (omega arith, p .1))
+
+pub refusals-clear : (S : State) (c : Call) → (first (refusals S c) ≡ 0) ↔ Clear (refusals S c)
+refusals-clear S c = first-clear (refusals S c) (refusals-proper S c .0)
+
+pub no-eleven : (S : State) (c : Call) → first (refusals S c) ≢ 11
+no-eleven S c = first-avoids 11 (refusals S c) (omega arith) (refusals-proper S c .1)
 
 pub codes-listed : CodesListed
-unfolding refusals open-refusals put-refusals get-refusals deliver-refusals drain-refusals
+unfolding refusals open-refusals put-refusals get-refusals deliver-refusals site-refusals touch-refusals
 codes-listed S (Open n k) = refl
 codes-listed S (Put s x v) = refl
 codes-listed S (Get s x) = refl
 codes-listed S (Deliver s o) = refl
 codes-listed S (Drain s b) = refl
+codes-listed S (Cold s now T m) = refl
+codes-listed S (Touch s x now u r) = refl
+
+pub follows-order : FollowsOrder
+unfolding asks refusals open-refusals put-refusals get-refusals deliver-refusals site-refusals touch-refusals
+follows-order t (Open n k) = refl
+follows-order t (Put s x v) = refl
+follows-order t (Get s x) = refl
+follows-order t (Deliver s o) = refl
+follows-order t (Drain s b) = refl
+follows-order t (Cold s now T m) = refl
+follows-order t (Touch s x now u r) = refl
 
 -- ## What a call does
 
-beside-code : (S : State) (c : Call) (e : ℕ) → beside S c e .code ≡ e
+pub beside-code : (S : State) (c : Call) (e : ℕ) → beside S c e .code ≡ e
 unfolding beside
 beside-code S (Open n k) e = refl
 beside-code S (Put s x v) e = refl
 beside-code S (Get s x) e = refl
 beside-code S (Deliver s o) e = choice (eqb e 10) (λ (a : Numbers). a .code ≡ e) (λ q. sym (eqb-true e 10 q)) (λ q. refl)
 beside-code S (Drain s b) e = refl
+beside-code S (Cold s now T m) e = refl
+beside-code S (Touch s x now u r) e = refl
 
 -- the step where no condition holds; else a refusal
 pub run-cases : (S : State) (c : Call)

@@ -2,12 +2,15 @@ pub mod Given
 pub mod Tested
 pub mod Ready
 pub mod Keeps
+pub mod Records
+pub mod Touching
 pub mod Draining
 pub mod Turns
 pub mod Sums
 pub mod Tries
 pub mod After
 pub mod Codes
+pub mod Touches
 pub mod Serving
 pub mod Fitting
 pub mod Outcomes

@@ -1,19 +1,21 @@
 -- What holds where no condition of a call does: exactly then its step is taken. Assumes nothing.
-use mathlib.Core.Path.{_≡_}
-use mathlib.Core.Bool.{not, true}
+use mathlib.Core.Path.{_≡_, refl}
+use mathlib.Core.Bool.{Bool, true, false, not, _&&_}
 use mathlib.Core.List.{[], _∷_}
-use mathlib.Core.Logic.{_≢_, _↔_, Iff·trans}
-use Prim.Native.Nat.{ℕ, _+_, _≤_, _<_}
+use mathlib.Core.Logic.{_≢_, _↔_, Iff·rfl, Iff·trans}
+use Prim.Native.Nat.{ℕ, _+_, _^_, _≤_, _<_}
 use native.Mathlib.Omega.{arith}
 use lib.Dec.{eqb}
 use borrow.Author.Tests.{ne-eqb, lt-leb}
 use Rattle.clock.specs.Map.{any}
-use Rattle.clock.proofs.Maps.{choice}
-use Rattle.clock.proofs.Says.{says-itself, says-eq, Denies, denies-itself, denies-eq, denies-le, denies-lt, denies-not, denies-or, denies-any}
-use Rattle.layout.specs.State.{State, lastClock}
+use Rattle.clock.proofs.Maps.{both, choice}
+use Rattle.clock.proofs.Says.{says-itself, says-eq, Denies, denies-itself, denies-eq, denies-le, denies-lt, denies-not, denies-or, denies-any, says-and, says-le}
+use Rattle.layout.specs.State.{State, Entry, lastClock}
 use Rattle.rules.specs.Sound.{sound, Sound}
+use Rattle.rules.specs.Touch.{keepsHour, recorded}
 use Rattle.rules.specs.Steps.{waiting}
-use Rattle.rules.specs.Refusals.{Refusals, first, full, missing, open-refusals, put-refusals, get-refusals, deliver-refusals, drain-refusals}
+use Rattle.rules.specs.Refusals.{Refusals, first, full, missing, open-refusals, put-refusals, get-refusals, deliver-refusals, site-refusals, touch-refusals}
+use Rattle.rules.specs.Calls.{Cold, Touch, refusals}
 use Rattle.laws.proofs.Given.{Gives, end, here, past}
 use Rattle.laws.proofs.Tested.{range-says, sound-tested}
 
@@ -134,9 +136,64 @@ module _ (S : State) where
       (past 9 (omega arith) (denies-eq (S .applied s o) (S .applied o o))
       (here 10 [] (omega arith) (says-itself (any 8 (missing S s o))))))) .exactly
 
-  pub drain-ready : (s : ℕ) → (first (drain-refusals S s) ≡ 0) ↔ DrainReady S s
-  unfolding drain-refusals
+  pub drain-ready : (s : ℕ) → (first (site-refusals S s) ≡ 0) ↔ DrainReady S s
+  unfolding site-refusals
   drain-ready s =
       Iff·trans
       (past-sound (omega arith) (past 4 (omega arith) (denies-le (S .n) s) end) .exactly)
       ((λ r. record { sound = r .0; site = r .1 .0 }), λ r. (r .sound, (r .site, tt)))
+
+-- ## Touch and the cold list
+
+pub record TouchReady (S : State) (s x hour u r : ℕ) : Type 0 where
+  pub put : PutReady S s x
+  pub toucher : u < 4
+  pub tier : r < 4
+  pub now : hour < 2 ^ 16
+  pub old : keepsHour u ≡ true → recorded (S .store s x) ≡ true
+
+pub record ColdReady (S : State) (s hour T m : ℕ) : Type 0 where
+  pub sound : Sound S
+  pub site : s < S .n
+  pub threshold : (1 ≤ T) × (T ≤ 32767)
+  pub room : m ≡ 64
+  pub now : hour < 2 ^ 16
+
+-- a scan or migration touches what is recorded
+recorded-denies : (u : ℕ) (e : Entry) → Denies (keepsHour u && not (recorded e)) (keepsHour u ≡ true → recorded e ≡ true)
+recorded-denies u e = go (keepsHour u) (recorded e)
+  where
+    go : (a b : Bool) → Denies (a && not b) (a ≡ true → b ≡ true)
+    go true true = ((λ z y. refl), λ f. refl)
+    go true false = ((λ z. both refl z), λ f. both (f refl) refl)
+    go false b = ((λ z y. both y refl), λ f. refl)
+
+module _ (S : State) where
+  pub touch-ready : (s x now u r : ℕ) → first (refusals S (Touch s x now u r)) ≡ 0 → TouchReady S s x now u r
+  unfolding refusals touch-refusals
+  touch-ready s x now u r z =
+      let g =
+      past 14 (omega arith) (denies-or (denies-or (denies-lt 3 u) (denies-lt 3 r)) (denies-lt 65535 now))
+      (past-sound S (omega arith)
+      (past 4 (omega arith) (denies-le (S .n) s)
+      (past 6 (omega arith) (denies-le (S .k) x)
+      (past 13 (omega arith) (recorded-denies u (S .store s x))
+      (past 7 (omega arith) (denies-eq (S .applied s s) lastClock)
+      (past 8 {t = full S s} (omega arith) Iff·rfl end)))))) .exactly .0 z in
+      let D = g .1 .0 in
+      let R = g .1 .1 in
+      record {
+        put = record { sound = D; site = R .0; key = R .1 .0; clock = R .1 .1 .1 .0; room = full-denies S s D (R .0) .0 (R .1 .1 .1 .1 .0) };
+        toucher = omega (arith, g .0 .0 .0);
+        tier = omega (arith, g .0 .0 .1);
+        now = omega (arith, g .0 .1);
+        old = R .1 .1 .0;
+      }
+
+  pub cold-ready : (s now T m : ℕ) → first (refusals S (Cold s now T m)) ≡ 0 → ColdReady S s now T m
+  unfolding refusals site-refusals
+  cold-ready s now T m z =
+      let g =
+      past 14 (omega arith) (denies-or (denies-or (denies-not (says-and (says-le 1 T) (says-le T 32767))) (denies-not (says-eq m 64))) (denies-lt 65535 now))
+      (past-sound S (omega arith) (past 4 (omega arith) (denies-le (S .n) s) end)) .exactly .0 z in
+      record { sound = g .1 .0; site = g .1 .1 .0; threshold = g .0 .0 .0; room = g .0 .0 .1; now = omega (arith, g .0 .1) }

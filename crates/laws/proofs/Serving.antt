@@ -1,48 +1,108 @@
 -- A call on a lent buffer: refused, it keeps every byte; else its bytes are those of the state it leaves. Assumes nothing.
-use mathlib.Core.Path.{_≡_, refl, _∙_}
-use mathlib.Core.List.{List}
+use mathlib.Core.Path.{_≡_, refl, sym, ap, _∙_}
+use mathlib.Core.Bool.{true, false}
+use mathlib.Core.List.{List, [], _∷_, _++_}
 use mathlib.Core.Logic.{⊎-elim, _≢_}
 use Prim.Native.Nat.{ℕ}
 use native.Mathlib.Omega.{arith}
 use lib.ListN.{length}
 use borrow.Author.Tests.{eq-eqb, ne-eqb}
 use Rattle.clock.proofs.Maps.{eq?}
-use Rattle.layout.specs.State.{State, stateOf, table}
+use Rattle.layout.specs.State.{State, stateOf, bytesOf, table}
 use Rattle.layout.specs.Ranges.{Bytes}
 use Rattle.layout.proofs.TableTrips.{bytes-back}
-use Rattle.rules.specs.Steps.{refused}
-use Rattle.rules.specs.Refusals.{first}
-use Rattle.rules.specs.Calls.{Call, Open, Put, Get, Deliver, Drain, refusals, beside, step, run, asks, serve}
-use Rattle.laws.proofs.Given.{unless-first}
+use Rattle.rules.specs.Steps.{Outcome, refused}
+use Rattle.rules.specs.Refusals.{Refusals, first}
+use Rattle.rules.specs.Calls.{Call, Open, Put, Get, Deliver, Drain, Cold, Touch, words, inside, refusals, beside, step, run, asks, Served, serve}
+use Rattle.laws.proofs.Given.{Avoids, words-proper, run-cases, beside-code}
 
-beside-size : (S : State) (c : Call) → beside S c 1 ≡ refused 1
+-- the answer of an outcome, and its state laid out
+abbrev pub served : Outcome → Served
+served r = record { answer = r .answer; bytes = bytesOf (r .after) }
+
+-- ## A condition behind the first ones
+
+-- that does not hold, and that holds
+first-past : (ps qs : Refusals) (e : ℕ) → first (ps ++ ((e, false) ∷ qs)) ≡ first (ps ++ qs)
+first-past [] qs e = refl
+first-past ((c, true) ∷ ps) qs e = refl
+first-past ((c, false) ∷ ps) qs e = first-past ps qs e
+
+pub first-at : (ps qs : Refusals) (e : ℕ) → first (ps ++ ((e, true) ∷ qs)) ≡ first (ps ++ ((e, true) ∷ []))
+first-at [] qs e = refl
+first-at ((c, true) ∷ ps) qs e = refl
+first-at ((c, false) ∷ ps) qs e = first-at ps qs e
+
+first-some : (ps qs : Refusals) (e : ℕ) → Avoids 0 ps → e ≢ 0 → first (ps ++ ((e, true) ∷ qs)) ≢ 0
+first-some [] qs e a h = h
+first-some ((c, true) ∷ ps) qs e a h = a .0
+first-some ((c, false) ∷ ps) qs e a h = first-some ps qs e (a .1) h
+
+-- ## The size of the buffer
+
+beside-words : (S : State) (c : Call) → let e = first (words c ++ ((1, true) ∷ [])) in beside S c e ≡ refused e
 unfolding beside
-beside-size S (Open n k) = refl
-beside-size S (Put s x v) = refl
-beside-size S (Get s x) = refl
-beside-size S (Deliver s o) = refl
-beside-size S (Drain s b) = refl
+beside-words S (Open n k) = refl
+beside-words S (Put s x v) = refl
+beside-words S (Get s x) = refl
+beside-words S (Deliver s o) = refl
+beside-words S (Drain s b) = refl
+beside-words S (Cold s now T m) = refl
+beside-words S (Touch s x now u r) = refl
 
 module _ (t : List ℕ) (c : Call) where
-  pub serve-runs : (t′ : List ℕ) → length t ≡ table .width → length t′ ≡ table .width → Bytes t′ → stateOf t′ ≡ run (stateOf t) c .after
-      → serve t c ≡ record { answer = run (stateOf t) c .answer; bytes = t′ }
-  unfolding serve
-  serve-runs t′ h h′ b e = rw (eq-eqb (length t) (table .width) h, ← e, bytes-back t′ h′ b)
+  pub asks-long : length t ≡ table .width → first (asks t c) ≡ first (refusals (stateOf t) c)
+  unfolding asks refusals
+  asks-long h = rw (eq-eqb (length t) (table .width) h) (first-past (words c) (inside (stateOf t) c) 1)
 
-  pub serve-refused : Bytes t → first (asks t c) ≢ 0 → serve t c ≡ record { answer = beside (stateOf t) c (first (asks t c)); bytes = t }
-  unfolding asks serve run
-  serve-refused b h =
-      ⊎-elim
-      (λ (e : length t ≡ table .width).
-      let f : first (asks t c) ≡ first (refusals (stateOf t) c) = rw (eq-eqb (length t) (table .width) e) in
-      rw (eq-eqb (length t) (table .width) e, unless-first (refusals (stateOf t) c) (beside (stateOf t) c) (stateOf t) (step (stateOf t) c) _ refl (λ z. h (f ∙ z)), bytes-back t e b))
-      (λ (e : length t ≢ table .width). rw (ne-eqb (length t) (table .width) e, beside-size (stateOf t) c))
-      (eq? (length t) (table .width))
+  pub asks-short : length t ≢ table .width → first (asks t c) ≡ first (words c ++ ((1, true) ∷ []))
+  unfolding asks
+  asks-short h = rw (ne-eqb (length t) (table .width) h) (first-at (words c) (inside (stateOf t) c) 1)
+
+  asks-some : length t ≢ table .width → first (asks t c) ≢ 0
+  asks-some h z = first-some (words c) [] 1 (words-proper c .0) (omega arith) (sym (asks-short h) ∙ z)
 
   pub asks-clear : first (asks t c) ≡ 0 → (length t ≡ table .width) × (first (refusals (stateOf t) c) ≡ 0)
-  unfolding asks
-  asks-clear h =
+  asks-clear z =
       ⊎-elim
-      (λ (e : length t ≡ table .width). (e, rw (eq-eqb (length t) (table .width) e) at h))
-      (λ (e : length t ≢ table .width). let z : _≡_ {A = ℕ} 1 0 = rw (ne-eqb (length t) (table .width) e) at h in absurd (omega arith))
+      (λ (e : length t ≡ table .width). (e, sym (asks-long e) ∙ z))
+      (λ e. absurd (asks-some e z))
       (eq? (length t) (table .width))
+
+  -- ## What is served
+
+  pub serve-step : first (asks t c) ≡ 0 → serve t c ≡ served (step (stateOf t) c)
+  unfolding serve
+  serve-step z = rw (eq-eqb (first (asks t c)) 0 z)
+
+  pub serve-refused : first (asks t c) ≢ 0 → serve t c ≡ record { answer = beside (stateOf t) c (first (asks t c)); bytes = t }
+  unfolding serve
+  serve-refused z = rw (ne-eqb (first (asks t c)) 0 z)
+
+  -- the buffer has another size
+  pub serve-short : length t ≢ table .width → let e = first (words c ++ ((1, true) ∷ [])) in serve t c ≡ record { answer = refused e; bytes = t }
+  serve-short h =
+      serve-refused (asks-some h)
+      ∙ (λ i. record { answer = beside (stateOf t) c (asks-short h i); bytes = t })
+      ∙ (λ i. record { answer = beside-words (stateOf t) c i; bytes = t })
+
+  pub serve-accepted : serve t c .answer .code ≡ 0 → first (asks t c) ≡ 0
+  serve-accepted z =
+      ⊎-elim
+      (λ (e : first (asks t c) ≡ 0). e)
+      (λ e. sym (beside-code (stateOf t) c (first (asks t c))) ∙ sym (ap (λ (r : Served). r .answer .code) (serve-refused e)) ∙ z)
+      (eq? (first (asks t c)) 0)
+
+  pub serve-long : length t ≡ table .width → Bytes t → serve t c ≡ served (run (stateOf t) c)
+  serve-long h b =
+      ⊎-elim
+      (λ p. serve-step (asks-long h ∙ p .0) ∙ ap served (sym (p .1)))
+      (λ p.
+      serve-refused (λ z. p .0 (sym (asks-long h) ∙ z))
+      ∙ (λ i. record { answer = beside (stateOf t) c (asks-long h i); bytes = sym (bytes-back t h b) i })
+      ∙ ap served (sym (p .1)))
+      (run-cases (stateOf t) c)
+
+  pub serve-runs : (t′ : List ℕ) → length t ≡ table .width → Bytes t → length t′ ≡ table .width → Bytes t′ → stateOf t′ ≡ run (stateOf t) c .after
+      → serve t c ≡ record { answer = run (stateOf t) c .answer; bytes = t′ }
+  serve-runs t′ h b h′ b′ e = serve-long h b ∙ (λ i. record { answer = run (stateOf t) c .answer; bytes = (ap bytesOf (sym e) ∙ bytes-back t′ h′ b′) i })

@@ -1,17 +1,16 @@
 -- What is proved of the rules, a sentence of document 01 each; the proofs are in proofs/. Assumes nothing.
 use mathlib.Core.Path.{_≡_}
-use mathlib.Core.Bool.{Bool, true, false}
-use mathlib.Core.List.{List, [], _∷_, _++_, map}
-use mathlib.Core.Logic.{_≢_, _↔_}
+use mathlib.Core.Bool.{true, false}
+use mathlib.Core.List.{List, [], _∷_, _++_}
+use mathlib.Core.Logic.{_⊎_, _≢_, _↔_}
 use Prim.Native.Nat.{ℕ, zero, suc, _+_, _*_, _-_, _≤_, _<_}
 use lib.ListN.{length}
-use Rattle.clock.specs.Map.{_⟨_≔_⟩}
 use Rattle.layout.specs.State.{State}
 use Rattle.rules.specs.Sound.{sound, Sound}
 use Rattle.rules.specs.Steps.{Numbers, refused, waiting}
-use Rattle.rules.specs.Refusals.{Refusals, missing}
+use Rattle.rules.specs.Refusals.{order, Refusals, listed, follows, missing}
 use Rattle.rules.specs.Drain.{drained, drain}
-use Rattle.rules.specs.Calls.{Call, Open, Put, Get, Deliver, Drain, refusals, run}
+use Rattle.rules.specs.Calls.{Call, Open, Put, Get, Deliver, Drain, Cold, Touch, refusals, run, asks}
 
 -- ## Sound tables
 
@@ -33,19 +32,15 @@ RefusedKeeps = (S : State) (c : Call) → run S c .answer .code ≢ 0 → run S 
 
 -- ## "given exactly when"
 
--- the condition listed for a code; a code that is not listed has none
-abbrev pub condition : Refusals → (code : ℕ) → Bool
-condition [] = λ e. false
-condition (p ∷ ps) = condition ps ⟨ p .0 ≔ p .1 ⟩
-
--- its condition holds, and that of no lower code does: "the lowest number is answered"
-pub record Given (ps : Refusals) (e : ℕ) : Type 0 where
-  pub holds : condition ps e ≡ true
-  pub lowest : (c : ℕ) → c < e → condition ps c ≡ false
+-- the condition of a code holds, and none listed before it does
+abbrev pub Given : Refusals → (code : ℕ) → Type 0
+Given [] e = ⊥
+Given (p ∷ ps) e = ((p .0 ≡ e) × (p .1 ≡ true)) ⊎ ((p .1 ≡ false) × Given ps e)
 
 -- no condition holds
 abbrev pub Clear : Refusals → Type 0
-Clear ps = (e : ℕ) → condition ps e ≡ false
+Clear [] = Unit {0}
+Clear (p ∷ ps) = (p .1 ≡ false) × Clear ps
 
 -- the codes with a condition, for each call
 abbrev pub codes : Call → List ℕ
@@ -54,9 +49,15 @@ codes (Put s x v) = 2 ∷ 4 ∷ 6 ∷ 7 ∷ 8 ∷ []
 codes (Get s x) = 2 ∷ 4 ∷ 6 ∷ []
 codes (Deliver s o) = 2 ∷ 4 ∷ 5 ∷ 9 ∷ 10 ∷ []
 codes (Drain s b) = 2 ∷ 4 ∷ []
+codes (Cold s now T m) = 14 ∷ 2 ∷ 4 ∷ []
+codes (Touch s x now u r) = 14 ∷ 2 ∷ 4 ∷ 6 ∷ 13 ∷ 7 ∷ 8 ∷ []
 
 abbrev pub CodesListed : Type 0
-CodesListed = (S : State) (c : Call) → map (λ (p : ℕ × Bool). p .0) (refusals S c) ≡ codes c
+CodesListed = (S : State) (c : Call) → listed (refusals S c) ≡ codes c
+
+-- "Several at once": the codes of every call stand in its list as they do in `order`, 1 among them
+abbrev pub FollowsOrder : Type 0
+FollowsOrder = (t : List ℕ) (c : Call) → follows (listed (asks t c)) order ≡ true
 
 -- every code but 0 and 11 is answered exactly when it is given
 abbrev pub GivenExactly : Type 0
@@ -73,6 +74,8 @@ Enough S (Put s x v) = Unit {0}
 Enough S (Get s x) = Unit {0}
 Enough S (Deliver s o) = Unit {0}
 Enough S (Drain s b) = needed S s ≤ b
+Enough S (Cold s now T m) = Unit {0}
+Enough S (Touch s x now u r) = Unit {0}
 
 abbrev pub Spent : State → Call → Type 0
 Spent S (Open n k) = ⊥
@@ -80,6 +83,8 @@ Spent S (Put s x v) = ⊥
 Spent S (Get s x) = ⊥
 Spent S (Deliver s o) = ⊥
 Spent S (Drain s b) = b < needed S s
+Spent S (Cold s now T m) = ⊥
+Spent S (Touch s x now u r) = ⊥
 
 -- 0 is answered exactly when no condition holds and the budget is enough
 abbrev pub AcceptedExactly : Type 0

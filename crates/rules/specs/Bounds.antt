@@ -1,11 +1,13 @@
 -- The rules at their bounds: each condition on both sides of its number, which of two is answered, and each number that a step writes. Assumes nothing.
-use mathlib.Core.Path.{refl}
-use mathlib.Core.List.{List, [], _∷_, _++_}
+use mathlib.Core.Path.{_≡_, refl}
+use mathlib.Core.Bool.{true, false}
+use mathlib.Core.List.{List, [], _∷_, _++_, map}
 use Prim.Native.Nat.{ℕ, _+_}
 use Rattle.clock.specs.Map.{_⟨_≔_⟩, _⟨_⟩⟨_≔_⟩}
 use Rattle.clock.specs.Vector.{Vector, zeros}
 use Rattle.layout.specs.State.{State, Entry, Update, withApplied, withDepends, withStore, withUpdates}
 use Rattle.rules.specs.Steps.{refused, done, opened}
+use Rattle.rules.specs.Refusals.{order, follows}
 use Rattle.rules.specs.Calls.{Open, Put, Get, Deliver, Drain}
 use Rattle.rules.specs.Cases.{rules, Case, case, case-of, ten, spent, Computed}
 use Rattle.rules.specs.SoundCases.{clock-in}
@@ -87,3 +89,10 @@ pub at-bounds : Computed bounds
 unfolding rules bounds
 at-bounds =
     (refl, (refl, (refl, (refl, (refl, (refl, (refl, (refl, (refl, (refl, (refl, (refl, (refl, (refl, (refl, (refl, (refl, (refl, (refl, (refl, (refl, (refl, (refl, tt)))))))))))))))))))))))
+
+-- document 02's places in the order: 14 before 1, 16 and 17 after 5, 19, 15 and 13 after 6, 18 between 7 and 8; no code twice, and no other
+in-order :
+    map (λ l. follows l order)
+    ((12 ∷ 14 ∷ 1 ∷ []) ∷ (5 ∷ 16 ∷ 17 ∷ 6 ∷ []) ∷ (6 ∷ 19 ∷ 15 ∷ 13 ∷ 7 ∷ 18 ∷ 8 ∷ []) ∷ (10 ∷ 20 ∷ 21 ∷ 11 ∷ []) ∷ (7 ∷ 6 ∷ []) ∷ (6 ∷ 6 ∷ []) ∷ (23 ∷ []) ∷ [])
+    ≡ true ∷ true ∷ true ∷ true ∷ false ∷ false ∷ false ∷ []
+in-order = refl

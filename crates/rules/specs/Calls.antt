@@ -1,13 +1,14 @@
--- The five calls on a table, and on a lent buffer of any length. Assumes nothing.
+-- The calls on a table, and on a lent buffer of any length. Assumes nothing.
 use mathlib.Core.Bool.{not}
-use mathlib.Core.List.{List, _∷_}
+use mathlib.Core.List.{List, [], _∷_, _++_}
 use Prim.Native.Nat.{ℕ}
 use lib.Dec.{eqb}
 use lib.ListN.{length}
 use Rattle.clock.specs.Map.{if_then_else_}
 use Rattle.layout.specs.State.{State, table, stateOf, bytesOf}
-use Rattle.rules.specs.Steps.{Numbers, Outcome, refused, opened, put, get, deliver}
-use Rattle.rules.specs.Refusals.{Refusals, open-refusals, put-refusals, get-refusals, deliver-refusals, drain-refusals, undelivered, unless}
+use Rattle.rules.specs.Touch.{coldList}
+use Rattle.rules.specs.Steps.{Numbers, Outcome, refused, opened, put, get, deliver, touch, cold}
+use Rattle.rules.specs.Refusals.{Refusals, first, open-refusals, put-refusals, get-refusals, deliver-refusals, site-refusals, touch-refusals, cold-words, touch-words, undelivered, unless}
 use Rattle.rules.specs.Drain.{drain}
 
 pub data Call : Type 0 where
@@ -16,13 +17,32 @@ pub data Call : Type 0 where
   Get : (site key : ℕ) → Call
   Deliver : (site origin : ℕ) → Call
   Drain : (site budget : ℕ) → Call
+  -- room: the length of the lent list
+  Cold : (site now threshold room : ℕ) → Call
+  Touch : (site key now toucher tier : ℕ) → Call
+
+-- what is asked "first of all", of the call's own numbers
+abbrev pub words : Call → Refusals
+words (Open n k) = []
+words (Put s x v) = []
+words (Get s x) = []
+words (Deliver s o) = []
+words (Drain s b) = []
+words (Cold s now T m) = cold-words now T m
+words (Touch s x now u r) = touch-words now u r
+
+-- what is asked of the table
+abbrev pub inside : State → Call → Refusals
+inside S (Open n k) = open-refusals n k
+inside S (Put s x v) = put-refusals S s x
+inside S (Get s x) = get-refusals S s x
+inside S (Deliver s o) = deliver-refusals S s o
+inside S (Drain s b) = site-refusals S s
+inside S (Cold s now T m) = site-refusals S s
+inside S (Touch s x now u r) = touch-refusals S s x u
 
 unfoldable pub refusals : State → Call → Refusals
-refusals S (Open n k) = open-refusals n k
-refusals S (Put s x v) = put-refusals S s x
-refusals S (Get s x) = get-refusals S s x
-refusals S (Deliver s o) = deliver-refusals S s o
-refusals S (Drain s b) = drain-refusals S s
+refusals S c = words c ++ inside S c
 
 -- the numbers of a refusal
 unfoldable pub beside : State → Call → (code : ℕ) → Numbers
@@ -31,6 +51,8 @@ beside S (Put s x v) = refused
 beside S (Get s x) = refused
 beside S (Deliver s o) = undelivered S s o
 beside S (Drain s b) = refused
+beside S (Cold s now T m) = refused
+beside S (Touch s x now u r) = refused
 
 -- the step where no condition holds
 unfoldable pub step : State → Call → Outcome
@@ -39,20 +61,36 @@ step S (Put s x v) = put S s x v
 step S (Get s x) = get S s x
 step S (Deliver s o) = deliver S s o
 step S (Drain s b) = drain S s b
+step S (Cold s now T m) = cold S s now T
+step S (Touch s x now u r) = touch S s x now u r
 
 unfoldable pub run : State → Call → Outcome
 run S c = unless (refusals S c) (beside S c) S (step S c)
 
 -- 1: the table buffer is not 15,620 bytes
 unfoldable pub asks : List ℕ → Call → Refusals
-asks t c = (1, not (eqb (length t) (table .width))) ∷ refusals (stateOf t) c
+asks t c = words c ++ ((1, not (eqb (length t) (table .width))) ∷ inside (stateOf t) c)
 
 -- what a call answers, and the bytes it leaves
 pub record Served : Type 0 where
   pub answer : Numbers
   pub bytes : List ℕ
 
+-- the step if no condition holds; else the refusal, and the table keeps all bytes
 unfoldable pub serve : List ℕ → Call → Served
 serve t c =
-    if eqb (length t) (table .width) then record { answer = run (stateOf t) c .answer; bytes = bytesOf (run (stateOf t) c .after) }
-    else record { answer = refused 1; bytes = t }
+    let r = step (stateOf t) c in
+    if eqb (first (asks t c)) 0 then record { answer = r .answer; bytes = bytesOf (r .after) }
+    else record { answer = beside (stateOf t) c (first (asks t c)); bytes = t }
+
+-- what a cold list answers, and the bytes it leaves in the table and in the lent list
+pub record Listed : Type 0 where
+  pub answer : Numbers
+  pub bytes : List ℕ
+  pub list : List ℕ
+
+-- "The list goes .. to a lent 64-byte buffer"; "A refusal keeps that buffer"
+unfoldable pub serve-list : (t list : List ℕ) → (s now threshold : ℕ) → Listed
+serve-list t l s now T =
+    let w = serve t (Cold s now T (length l)) in
+    record { answer = w .answer; bytes = w .bytes; list = if eqb (w .answer .code) 0 then coldList (stateOf t) s now T else l }

@@ -7,14 +7,15 @@ use Rattle.clock.specs.Map.{if_then_else_, all, any, least}
 use lib.ListN.{replicate}
 use Rattle.layout.specs.State.{State, bytesOf}
 use Rattle.rules.specs.Sound.{sound, header, counted, blank, written, smallest, lowest, holds, retains}
-use Rattle.rules.specs.Steps.{Numbers, refused, done, opened, put, learn, get, deliver}
-use Rattle.rules.specs.Refusals.{open-refusals, full, put-refusals, get-refusals, deliver-refusals, drain-refusals}
+use Rattle.rules.specs.Touch.{kind, chosen, coldList}
+use Rattle.rules.specs.Steps.{Numbers, refused, done, opened, put, learn, get, deliver, touch, learnAll, cold}
+use Rattle.rules.specs.Refusals.{open-refusals, full, put-refusals, get-refusals, deliver-refusals, site-refusals, touch-refusals}
 use Rattle.rules.specs.Drain.{try, passes, drained, drain}
 use Rattle.rules.specs.Calls.{Call, Put, Get, Deliver, Drain, refusals, beside, step, run}
 
 -- opens every rule, for what is computed
 unfoldable pub rules : ℕ
-unfolding all any least sound header counted blank written smallest lowest holds retains opened put learn get deliver open-refusals full put-refusals get-refusals deliver-refusals drain-refusals try passes drained drain refusals beside step run
+unfolding all any least sound header counted blank written smallest lowest holds retains opened put learn get deliver open-refusals full put-refusals get-refusals deliver-refusals site-refusals touch-refusals try passes drained drain kind chosen coldList touch learnAll cold refusals beside step run
 rules = 0
 
 -- calls on a freshly opened table, their answers, and what is seen of the table before and after the last call

@@ -1,8 +1,10 @@
 pub mod Sound
+pub mod Touch
 pub mod Steps
 pub mod Refusals
 pub mod Drain
 pub mod Calls
 pub mod Cases
-pub mod SoundCases
 pub mod Bounds
+pub mod SoundCases
+pub mod TouchCases

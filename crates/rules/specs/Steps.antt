@@ -1,10 +1,13 @@
--- What an accepted open, put, get and delivery do to the table, and what they answer. Assumes nothing.
-use Prim.Native.Nat.{ℕ, suc}
+-- What an accepted open, put, get, delivery, touch and cold list do to the table, and what they answer. Assumes nothing.
+use Prim.Native.Nat.{ℕ, zero, suc}
 use lib.Dec.{eqb}
+use lib.ListN.{length}
 use Rattle.clock.specs.Map.{if_then_else_, _⟨_≔_⟩, _⟨_⟩⟨_≔_⟩}
 use Rattle.clock.specs.Vector.{zeros, join, note}
 use Rattle.layout.specs.State.{State, Update, allZero, withCounts, withApplied, withDepends, withStore, withUpdates}
 use Rattle.rules.specs.Sound.{place}
+use Rattle.rules.specs.Touch as kinds
+use Rattle.rules.specs.Touch.{touched, keysOf}
 
 -- an answer is five numbers
 pub record Numbers : Type 0 where
@@ -64,3 +67,18 @@ deliver S s o =
     let u = waiting S s o in
     let E = withStore S (S .store ⟨ s ⟩⟨ u .key ≔ record { value = u .value; origin = o; zero = 0; clock = c; depends = u .depends } ⟩) in
     record { answer = done (u .key) o c (u .value); after = withApplied E (S .applied ⟨ s ⟩⟨ o ≔ c ⟩) }
+
+-- "Touch gets a key and puts a record of the given toucher and tier"; "it answers as its put"
+unfoldable pub touch : State → (s x now toucher tier : ℕ) → Outcome
+touch S s x now u r = put (learn S s x) s x (touched (S .store s x .value) now u r)
+
+-- gets of the keys below m, ascending
+unfoldable pub learnAll : State → (s m : ℕ) → State
+learnAll S s zero = S
+learnAll S s (suc m) = learn (learnAll S s m) s m
+
+-- "The answer's key, site and clock count keys listed, clocks ahead and malformed values"; "The list gets every key at one site"
+unfoldable pub cold : State → (s now threshold : ℕ) → Outcome
+cold S s now T =
+    let count : kinds.Kind → ℕ = λ j. length (keysOf j S s now T) in
+    record { answer = done (count kinds.cold) (count kinds.ahead) (count kinds.malformed) 0; after = learnAll S s (S .k) }

@@ -7,7 +7,7 @@ use Prim.Native.Nat.{ℕ}
 use native.Mathlib.Omega.{arith}
 use lib.Dec.{eqb}
 use Rattle.clock.specs.Map.{if_then_else_}
-use Rattle.laws.proofs.Given.{Ascends, past, end}
+use Rattle.laws.proofs.Given.{Avoids, past, end}
 use Rattle.clock.proofs.Says.{says-eq, denies-not, denies-or, denies-le, denies-eq}
 use lib.ListN.{length}
 use borrow.Author.Tests.{eqb-true}
@@ -22,16 +22,16 @@ use Rattle.rules.specs.Calls.{Put, Get, refusals, asks}
 use Rattle.laws.proofs.Ready.{GetReady, get-ready, PutReady, put-ready}
 use Rattle.laws.proofs.Serving.{asks-clear}
 use Rattle.table.specs.declared.Refusal.{Refusal}
-use Rattle.table.specs.declared.Refusal.the-variants.{Nothing, Size, Unsound, Counts, Site, Same, Key, Spent, Full, NoNext}
+use Rattle.table.specs.declared.Refusal.the-variants.{Nothing, Size, Unsound, Counts, Site, Same, Key, Spent, Full, NoNext, NoRecord, OutOfRange}
 use Rattle.table.specs.Answers.{codeOf}
 use Rattle.table.specs.Asked.{tableIn, deliverIn, Attempts}
 
-pub first-then : (b : ℕ) (ps qs : Refusals) → Ascends b ps → first ps ≡ 0 → first qs ≡ first (ps ++ qs)
-first-then b [] qs h e = refl
-first-then b (p ∷ ps) qs h e = go (p .1) refl e (first-then (p .0) ps qs (h .1))
+pub first-then : (ps qs : Refusals) → Avoids 0 ps → first ps ≡ 0 → first qs ≡ first (ps ++ qs)
+first-then [] qs h e = refl
+first-then (p ∷ ps) qs h e = go (p .1) refl e (first-then ps qs (h .1))
   where
     go : (t : Bool) → p .1 ≡ t → (if t then p .0 else first ps) ≡ 0 → (first ps ≡ 0 → first qs ≡ first (ps ++ qs)) → first qs ≡ (if p .1 then p .0 else first (ps ++ qs))
-    go true f z r = absurd (omega (arith, h .0))
+    go true f z r = absurd (h .0 z)
     go false f z r = rw f (r z)
 
 pub first-stop : (ps qs : Refusals) → first ps ≢ 0 → first ps ≡ first (ps ++ qs)
@@ -44,13 +44,13 @@ first-stop (p ∷ ps) qs h = go (p .1) refl h (first-stop ps qs)
     go false f z r = rw f (r z)
 
 -- the other arms of a match on a refusal
-pub refusing : (r : Refusal) → OneOf (1 ∷ 2 ∷ 3 ∷ 4 ∷ 5 ∷ 6 ∷ 7 ∷ 8 ∷ 9 ∷ []) (tagOf the-type r) → codeOf r ≢ 0
+pub refusing : (r : Refusal) → OneOf (1 ∷ 2 ∷ 3 ∷ 4 ∷ 5 ∷ 6 ∷ 7 ∷ 8 ∷ 9 ∷ 10 ∷ 11 ∷ []) (tagOf the-type r) → codeOf r ≢ 0
 refusing Nothing h = absurd (never h)
   where
-    never : OneOf (1 ∷ 2 ∷ 3 ∷ 4 ∷ 5 ∷ 6 ∷ 7 ∷ 8 ∷ 9 ∷ []) 0 → ⊥
+    never : OneOf (1 ∷ 2 ∷ 3 ∷ 4 ∷ 5 ∷ 6 ∷ 7 ∷ 8 ∷ 9 ∷ 10 ∷ 11 ∷ []) 0 → ⊥
     never =
         ⊎-elim (λ e. omega arith) (⊎-elim (λ e. omega arith) (⊎-elim (λ e. omega arith) (⊎-elim (λ e. omega arith) (⊎-elim (λ e. omega arith)
-        (⊎-elim (λ e. omega arith) (⊎-elim (λ e. omega arith) (⊎-elim (λ e. omega arith) (λ e. omega arith))))))))
+        (⊎-elim (λ e. omega arith) (⊎-elim (λ e. omega arith) (⊎-elim (λ e. omega arith) (⊎-elim (λ e. omega arith) (⊎-elim (λ e. omega arith) (λ e. omega arith))))))))))
 refusing Size h = omega arith
 refusing Unsound h = omega arith
 refusing Counts h = omega arith
@@ -60,6 +60,8 @@ refusing Key h = omega arith
 refusing Spent h = omega arith
 refusing Full h = omega arith
 refusing NoNext h = omega arith
+refusing NoRecord h = omega arith
+refusing OutOfRange h = omega arith
 
 -- neither 1 nor 2: the buffer holds a sound table
 pub table-clear : (t : List ℕ) → first (tableIn t) ≡ 0 → (length t ≡ table .width) × Sound (stateOf t)

@@ -4,15 +4,15 @@ use mathlib.Core.List.{List}
 use mathlib.Core.Logic.{_≢_}
 use Prim.Native.Nat.{ℕ}
 use lib.ListN.{length}
-use Rattle.layout.specs.State.{State, stateOf, table}
+use Rattle.layout.specs.State.{State, stateOf, bytesOf, table}
+use Rattle.layout.proofs.TableTrips.{bytes-back}
 use Rattle.layout.specs.Ranges.{Bytes}
-use Rattle.rules.specs.Steps.{Numbers, Outcome, refused}
+use Rattle.rules.specs.Steps.{Numbers, refused}
 use Rattle.rules.specs.Refusals.{first}
-use Rattle.rules.specs.Calls.{Call, Open, Put, Get, Deliver, Drain, refusals, beside, step, run, asks, serve}
-use Rattle.laws.proofs.Given.{unless-none}
-use Rattle.laws.proofs.Serving.{serve-runs, serve-refused, asks-clear}
+use Rattle.rules.specs.Calls.{Call, Open, Put, Get, Deliver, Drain, Cold, Touch, beside, step, run, asks, serve}
+use Rattle.laws.proofs.Serving.{asks-clear, serve-step, serve-refused, serve-runs}
 use Rattle.table.specs.declared.Refusal.{Refusal}
-use Rattle.table.specs.declared.Refusal.the-variants.{Nothing, Size, Unsound, Counts, Site, Same, Key, Spent, Full, NoNext}
+use Rattle.table.specs.declared.Refusal.the-variants.{Nothing, Size, Unsound, Counts, Site, Same, Key, Spent, Full, NoNext, NoRecord, OutOfRange}
 use Rattle.table.specs.declared.Answer.the-variants.{Refused}
 use Rattle.table.specs.Answers.{codeOf, served}
 
@@ -32,23 +32,25 @@ besides S (Deliver s o) Key = refl
 besides S (Deliver s o) Spent = refl
 besides S (Deliver s o) Full = refl
 besides S (Deliver s o) NoNext = refl
+besides S (Deliver s o) NoRecord = refl
+besides S (Deliver s o) OutOfRange = refl
 besides S (Drain s b) r = refl
+besides S (Cold s now T m) r = refl
+besides S (Touch s x now u w) r = refl
 
 module _ (t : List ℕ) (c : Call) where
-  pub serves-refused : (r : Refusal) → Bytes t → codeOf r ≡ first (asks t c) → codeOf r ≢ 0 → served (Refused r) t ≡ serve t c
-  serves-refused r b e h =
+  pub serves-refused : (r : Refusal) → codeOf r ≡ first (asks t c) → codeOf r ≢ 0 → served (Refused r) t ≡ serve t c
+  serves-refused r e h =
       sym
-      (serve-refused t c b (λ z. h (e ∙ z))
+      (serve-refused t c (λ z. h (e ∙ z))
       ∙ (λ i. record { answer = beside (stateOf t) c (sym e i); bytes = t })
       ∙ (λ i. record { answer = besides (stateOf t) c r i; bytes = t }))
 
   module _ (r : Numbers) (t′ : List ℕ) (same : length t′ ≡ length t) (b : Bytes t′) where
-    pub serves-run : length t ≡ table .width → r ≡ run (stateOf t) c .answer → stateOf t′ ≡ run (stateOf t) c .after → record { answer = r; bytes = t′ } ≡ serve t c
-    serves-run h e f = sym (serve-runs t c t′ h (same ∙ h) b f ∙ (λ i. record { answer = sym e i; bytes = t′ }))
+    pub serves-run : length t ≡ table .width → Bytes t → r ≡ run (stateOf t) c .answer → stateOf t′ ≡ run (stateOf t) c .after → record { answer = r; bytes = t′ } ≡ serve t c
+    serves-run h b₀ e f = sym (serve-runs t c t′ h b₀ (same ∙ h) b f ∙ (λ i. record { answer = sym e i; bytes = t′ }))
 
     pub serves-step : first (asks t c) ≡ 0 → r ≡ step (stateOf t) c .answer → stateOf t′ ≡ step (stateOf t) c .after → record { answer = r; bytes = t′ } ≡ serve t c
-    unfolding run
     serves-step z e f =
-        let h = asks-clear t c z in
-        let w : run (stateOf t) c ≡ step (stateOf t) c = unless-none (refusals (stateOf t) c) (beside (stateOf t) c) (stateOf t) (step (stateOf t) c) (h .1) in
-        serves-run (h .0) (e ∙ sym (ap (λ (o : Outcome). o .answer) w)) (f ∙ sym (ap (λ (o : Outcome). o .after) w))
+        let h = same ∙ asks-clear t c z .0 in
+        (λ i. record { answer = e i; bytes = (sym (bytes-back t′ h b) ∙ ap bytesOf f) i }) ∙ sym (serve-step t c z)

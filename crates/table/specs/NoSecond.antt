@@ -2,7 +2,7 @@
 use mathlib.Core.Path.{_≡_, refl, sym, _∙_}
 use mathlib.Core.List.{List}
 use Prim.Native.Nat.{ℕ}
-use Rattle.rules.specs.Calls.{Call, Open, Put, Get, Deliver, Drain, Served, serve}
+use Rattle.rules.specs.Calls.{Call, Open, Put, Get, Deliver, Drain, Touch, Served, serve}
 use Rattle.table.specs.Answers.{Promise}
 
 abbrev pub NoSecond : Call → Type 0
@@ -28,3 +28,6 @@ deliver-no-second s o = no-second (Deliver s o)
 
 pub drain-no-second : (s b : ℕ) → NoSecond (Drain s b) × One (Drain s b)
 drain-no-second s b = no-second (Drain s b)
+
+pub touch-no-second : (s x hour u r : ℕ) → NoSecond (Touch s x hour u r) × One (Touch s x hour u r)
+touch-no-second s x hour u r = no-second (Touch s x hour u r)

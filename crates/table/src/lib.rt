@@ -7,7 +7,7 @@ ghost use Rattle.layout.specs.Records.{entryOf};
 ghost use Rattle.rules.specs.Steps.{next, put, learn, deliver};
 ghost use Rattle.rules.specs.Refusals.{first};
 ghost use Rattle.rules.specs.Drain.{try};
-ghost use Rattle.rules.specs.Calls.{Open, Put, Get, Deliver, asks};
+ghost use Rattle.rules.specs.Calls.{Open, Put, Get, Deliver, Drain, asks};
 ghost use Rattle.table.specs.Answers.{codeOf, numbersOf, served, Promise};
 ghost use Rattle.table.specs.Asked.{tableIn, namesIn, sitesIn, fullIn, roomIn, deliverIn, PutFits, GetFits, DeliverFits, Attempts};
 use clock::Clock;
@@ -15,7 +15,7 @@ use clock::Compared;
 use layout::Record;
 use layout::Table;
 
-// Why a call is refused, in the order of the codes; Nothing where it is not.
+// Why a call is refused; Nothing where it is not.
 pub enum Refusal {
     Nothing,
     Size,
@@ -27,6 +27,8 @@ pub enum Refusal {
     Spent,
     Full,
     NoNext,
+    NoRecord,
+    OutOfRange,
 }
 
 // What a call answers.
@@ -53,7 +55,7 @@ pub enum Answer {
 }
 
 // The number of a refusal, and of an answer.
-fn refusal_code(r: Refusal) -> u8
+pub fn refusal_code(r: Refusal) -> u8
     ensures { λ c. ⌜ c ≡ codeOf r ⌝ }
 {
     match r {
@@ -67,6 +69,8 @@ fn refusal_code(r: Refusal) -> u8
         Refusal::Spent => 7,
         Refusal::Full => 8,
         Refusal::NoNext => 9,
+        Refusal::NoRecord => 13,
+        Refusal::OutOfRange => 14,
     }
 }
 
@@ -152,7 +156,7 @@ fn sites_refusal(n: usize, s: usize, o: usize) -> Refusal
 }
 
 // 7 and 8: room for one more put of s.
-fn room_refusal(t: &[u8], n: usize, s: usize) -> Refusal
+pub fn room_refusal(t: &[u8], n: usize, s: usize) -> Refusal
     requires { ⌜ (length (now t) ≡ table .width) × (n ≤ 8) × (s < 8) ⌝ }
     ensures { λ r. ⌜ codeOf r ≡ first (roomIn (stateOf (now (t .entry)) .applied) n s) ⌝ }
 {
@@ -165,7 +169,24 @@ fn room_refusal(t: &[u8], n: usize, s: usize) -> Refusal
     Refusal::Nothing
 }
 
-fn get_refusal(t: &[u8], s: usize, x: usize) -> Refusal
+// 1, 2 and 4: a site.
+pub fn site_refusal(t: &[u8], s: usize) -> Refusal
+    ensures { λ r. ⌜ codeOf r ≡ first (asks (now (t .entry)) (Drain s 0)) ⌝ }
+{
+    let why = table_refusal(t);
+    match why {
+        Refusal::Nothing => {
+            let h = layout::read_header(t);
+            if layout::wide_byte(h.n) <= s {
+                return Refusal::Site;
+            }
+            Refusal::Nothing
+        }
+        _ => why,
+    }
+}
+
+pub fn get_refusal(t: &[u8], s: usize, x: usize) -> Refusal
     ensures { λ r. ⌜ codeOf r ≡ first (asks (now (t .entry)) (Get s x)) ⌝ }
 {
     let why = table_refusal(t);
@@ -200,7 +221,7 @@ fn after(c: u16) -> u16
 }
 
 // The update at its place, the entry, the applied count and the dependency row.
-fn put_step(t: &mut [u8], s: usize, x: usize, v: u32) -> u16
+pub fn put_step(t: &mut [u8], s: usize, x: usize, v: u32) -> u16
     requires { ⌜ PutFits (now t) s x ⌝ }
     ensures { λ r. ⌜ (r ≡ next (stateOf (now (t .entry))) s s) × (stateOf (now (t .exit)) ≡ put (stateOf (now (t .entry))) s x v .after) ⌝ }
 {
@@ -257,7 +278,7 @@ pub fn put(t: &mut [u8], s: usize, x: usize, v: u32) -> Answer
 }
 
 // The entry; if its clock is not 0, the dependency row joined with its vector and then with its pair.
-fn get_step(t: &mut [u8], s: usize, x: usize) -> Record
+pub fn get_step(t: &mut [u8], s: usize, x: usize) -> Record
     requires { ⌜ GetFits (now t) s x ⌝ }
     ensures { λ r. ⌜ (entryOf r ≡ stateOf (now (t .entry)) .store s x) × (stateOf (now (t .exit)) ≡ learn (stateOf (now (t .entry))) s x) ⌝ }
 {

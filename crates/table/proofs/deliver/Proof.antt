@@ -28,10 +28,11 @@ unfolding Bytes
 returns c =
     let w = c .before .before .attempt in
     let arg = c .before .before .before in
-    let a = arg .before .before .before .before .before .before .args in
+    let known = arg .before .before .before .before .before in
+    let a = known .before .args in
     let r = try-runs (stateOf (a .t .now)) (a .s) (a .o) in
     serves-run (a .t .now) (Deliver (a .s) (a .o)) _ (w .last .0) (w .kept .0) (λ i. omega (arith, c .slice-known2 .given i)) (attempt-requires arg (w .lifetimes) .size)
-    (w .ensures .0 ∙ ap (λ (o : Outcome). o .answer) r) (w .ensures .1 ∙ ap (λ (o : Outcome). o .after) r)
+    (λ i. omega (arith, known .slice-known .given i)) (w .ensures .0 ∙ ap (λ (o : Outcome). o .answer) r) (w .ensures .1 ∙ ap (λ (o : Outcome). o .after) r)
 
 returns-2 : tie.Need-returns-2
 unfolding Bytes asks refusals deliver-refusals
@@ -41,7 +42,7 @@ returns-2 c =
     let a = known .before .args in
     let S = stateOf (a .t .now) in
     let no-code = refusing (r .result) (c .match .keys2) in
-    serves-refused (a .t .now) (Deliver (a .s) (a .o)) (r .result) (λ i. omega (arith, known .slice-known .given i))
+    serves-refused (a .t .now) (Deliver (a .s) (a .o)) (r .result)
     (r .ensures
     ∙ first-stop (deliverIn (a .t .now) (a .s) (a .o)) ((9, eqb (S .applied (a .s) (a .o)) (S .applied (a .o) (a .o))) ∷ (10, any 8 (missing S (a .s) (a .o))) ∷ [])
     (λ z. no-code (r .ensures ∙ z))) no-code

@@ -21,7 +21,7 @@ returns c =
     let n = c .before .wide-byte .ensures .0 ∙ header .read-header .ensures .n in
     c .sites-refusal .ensures
     ∙ (λ i. first (sitesIn (n i) (a .s) (a .o)))
-    ∙ first-then 0 (tableIn (a .t .now)) (sitesIn (stateOf (a .t .now) .n) (a .s) (a .o)) (omega arith)
+    ∙ first-then (tableIn (a .t .now)) (sitesIn (stateOf (a .t .now) .n) (a .s) (a .o)) (omega arith)
     (sym (asked .table-refusal .ensures) ∙ ap codeOf (header .before .enum-told .given .1))
 
 returns-2 : tie.Need-returns-2

@@ -41,7 +41,7 @@ returns-2 c =
     let r = c .before .get-refusal in
     let known = c .before .before .before in
     let a = known .before .args in
-    serves-refused (a .t .now) (Get (a .s) (a .x)) (r .result) (λ i. omega (arith, known .slice-known .given i)) (r .ensures) (refusing (r .result) (c .match .keys2))
+    serves-refused (a .t .now) (Get (a .s) (a .x)) (r .result) (r .ensures) (refusing (r .result) (c .match .keys2))
 
 pub get-spec : {M : Type 1} → statement M
 get-spec =

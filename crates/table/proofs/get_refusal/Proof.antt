@@ -25,7 +25,7 @@ returns c =
     let k = c .before .wide-byte2 .ensures .0 ∙ h .k in
     c .names-refusal .ensures
     ∙ (λ i. first (namesIn (n i) (k i) (a .s) (a .x)))
-    ∙ first-then 0 (tableIn (a .t .now)) (namesIn (stateOf (a .t .now) .n) (stateOf (a .t .now) .k) (a .s) (a .x)) (omega arith)
+    ∙ first-then (tableIn (a .t .now)) (namesIn (stateOf (a .t .now) .n) (stateOf (a .t .now) .k) (a .s) (a .x)) (omega arith)
     (sym (asked .table-refusal .ensures) ∙ ap codeOf (header .before .enum-told .given .1))
 
 returns-2 : tie.Need-returns-2

@@ -19,14 +19,14 @@ unfolding Bytes asks refusals open-refusals
 returns c =
     let known = c .before in
     let a = known .before .args in
-    serves-refused (a .t .now) (Open (a .n) (a .k)) Size (λ i. omega (arith, known .slice-known .given i)) (rw (ne-eqb (length (a .t .now)) (table .width) (c .if1 .taken))) (omega arith)
+    serves-refused (a .t .now) (Open (a .n) (a .k)) Size (rw (ne-eqb (length (a .t .now)) (table .width) (c .if1 .taken))) (omega arith)
 
 returns-2 : tie.Need-returns-2
 unfolding Bytes asks refusals open-refusals
 returns-2 c =
     let known = c .before .before .before in
     let a = known .before .args in
-    serves-refused (a .t .now) (Open (a .n) (a .k)) Counts (λ i. omega (arith, known .slice-known .given i))
+    serves-refused (a .t .now) (Open (a .n) (a .k)) Counts
     (rw (eq-eqb (length (a .t .now)) (table .width) (c .before .before .if1 .left), sym (c .before .in-range .ensures) ∙ not-true _ (c .if2 .taken))) (omega arith)
 
 returns-3 : tie.Need-returns-3

@@ -33,7 +33,7 @@ returns-2 c =
     let r = c .before .put-refusal in
     let known = c .before .before .before in
     let a = known .before .args in
-    serves-refused (a .t .now) (Put (a .s) (a .x) (a .v)) (r .result) (λ i. omega (arith, known .slice-known .given i)) (r .ensures) (refusing (r .result) (c .match .keys2))
+    serves-refused (a .t .now) (Put (a .s) (a .x) (a .v)) (r .result) (r .ensures) (refusing (r .result) (c .match .keys2))
 
 pub put-spec : {M : Type 1} → statement M
 put-spec =

@@ -31,7 +31,7 @@ returns c =
     let n = c .before .wide-byte .ensures .0 ∙ c .before .before .read-header .ensures .n in
     c .room-refusal .ensures
     ∙ (λ i. first (roomIn (S .applied) (n i) (a .s)))
-    ∙ first-then 0 (asks (a .t .now) (Get (a .s) (a .x))) (roomIn (S .applied) (S .n) (a .s)) (omega arith)
+    ∙ first-then (asks (a .t .now) (Get (a .s) (a .x))) (roomIn (S .applied) (S .n) (a .s)) (omega arith)
     (sym (told .before .before .get-refusal .ensures) ∙ ap codeOf (told .enum-told .given .1))
 
 returns-2 : tie.Need-returns-2

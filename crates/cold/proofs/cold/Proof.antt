@@ -1,0 +1,54 @@
+use mathlib.Core.Path.{sym, ap, _∙_}
+use native.Mathlib.Omega.{arith}
+use lib.ListN.{length}
+use Rattle.layout.specs.Ranges.{Bytes}
+use Rattle.table.specs.Answers.{codeOf}
+use Rattle.table.proofs.Codes.{refusing}
+use Rattle.cold.proofs.Listing as listing
+use borrow.Author.Needs.{needs}
+use Rattle.cold.proofs.cold.Statement.{statement}
+use Rattle.cold.proofs.cold.Tie as tie
+
+cast-cold-step : tie.Need-cast-cold-step
+cast-cold-step c =
+    let a = c .before .before .before .before .before .before .before .before .args in
+    omega (arith, listing.ready (a .t .now) (a .list .now) (a .s) (a .hour) (a .threshold) (sym (c .before .before .before .before .cold-refusal .ensures) ∙ ap codeOf (c .before .before .enum-told .given .1)) .1 .now)
+
+cast-cold-step-2 : tie.Need-cast-cold-step-2
+cast-cold-step-2 c =
+    let a = c .before .before .before .before .before .before .before .before .args in
+    omega (arith, listing.ready (a .t .now) (a .list .now) (a .s) (a .hour) (a .threshold) (sym (c .before .before .before .before .cold-refusal .ensures) ∙ ap codeOf (c .before .before .enum-told .given .1)) .1 .threshold)
+
+cold-step-requires : tie.Need-cold-step-requires
+cold-step-requires c κs =
+    let a = c .before .before .before .before .before .before .before .before .args in
+    listing.lists (a .t .now) (a .list .now) (a .s) (a .hour) (a .threshold) (sym (c .before .before .before .before .cold-refusal .ensures) ∙ ap codeOf (c .before .before .enum-told .given .1))
+
+returns : tie.Need-returns
+unfolding Bytes
+returns c =
+    let a = c .before .before .before .before .before .before .before .before .before .before .before .before .before .args in
+    let w = c .before .before .before .before .cold-step in
+    listing.lists-step (a .t .now) (a .list .now) (a .s) (a .hour) (a .threshold) (sym (c .before .before .before .before .before .before .before .before .before .cold-refusal .ensures) ∙ ap codeOf (c .before .before .before .before .before .before .before .enum-told .given .1))
+    _ (w .last .0) _ (w .kept .0) (λ i. omega (arith, c .before .before .slice-known3 .given i)) (w .ensures)
+
+returns-2 : tie.Need-returns-2
+returns-2 c =
+    let r = c .before .cold-refusal in
+    let a = c .before .before .before .before .before .args in
+    listing.lists-refused (a .t .now) (a .list .now) (a .s) (a .hour) (a .threshold) (r .result) (r .ensures) (refusing (r .result) (c .match .keys2))
+
+pub cold-spec : {M : Type 1} → statement M
+cold-spec =
+    tie.close
+    (tie.spec
+    (λ c κs. search needs)  -- cold-refusal-requires
+    (λ c. search needs)  -- enum-told
+    cast-cold-step
+    cast-cold-step-2
+    cold-step-requires
+    (λ c. search needs)  -- same-length
+    (λ c. search needs)  -- same-length-2
+    returns
+    (λ c. search needs)  -- same-length-3
+    returns-2)

@@ -1,0 +1,4 @@
+pub mod Kinds
+pub mod Tally
+pub mod Listing
+pub mod NoSecond

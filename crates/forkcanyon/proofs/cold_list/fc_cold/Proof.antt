@@ -1,0 +1,39 @@
+use mathlib.Core.Path.{_≡_, ap, _∙_}
+use native.Mathlib.Omega.{arith}
+use lib.ListN.{length}
+use Rattle.rules.specs.Refusals.{cold-words}
+use Rattle.forkcanyon.specs.ColdHost.{left}
+use Rattle.forkcanyon.specs.Told.{behind}
+use Rattle.forkcanyon.proofs.Hosts.{behind-words, lists-nothing, lists-call}
+use borrow.Author.Needs.{needs}
+use Rattle.forkcanyon.proofs.cold_list.fc_cold.Statement.{statement}
+use Rattle.forkcanyon.proofs.cold_list.fc_cold.Tie as tie
+
+returns : tie.Need-returns
+returns c =
+    let a = c .before .before .before .before .before .before .args in
+    let code = c .wrong-size .ensures ∙ ap behind (c .before .words-refusal .ensures) ∙ behind-words (cold-words (a .hour) (a .threshold) (length (a .list .now))) (omega arith) in
+    (λ i. left (code i) (a .table .now) (a .list .now) (a .reply .now))
+    ∙ lists-nothing (a .table .now) (a .list .now) (a .reply .now) (a .site) (a .hour) (a .threshold) (c .before .before .if1 .taken)
+
+returns-2 : tie.Need-returns-2
+returns-2 c =
+    let w = c .before .before .before .before .before .before .before .before .before .cold in
+    let a = c .before .before .before .before .before .before .before .before .before .before .before .before .before .before .before .before .args in
+    lists-call (a .table .now) (a .list .now) (a .reply .now) (a .site) (a .hour) (a .threshold) (w .result) (c .before .before .before .numbers-of .result) (c .before .before .before .before .before .before .before .before .before .before .before .before .if1 .left) (w .ensures)
+    (c .before .before .before .numbers-of .ensures) (c .before .before .answer .ensures)
+
+pub fc-cold-spec : {M : Type 1} → statement M
+fc-cold-spec =
+    tie.close
+    (tie.spec
+    (λ c κs. search needs)  -- words-refusal-requires
+    (λ c κs. search needs)  -- wrong-size-requires
+    returns
+    (λ c κs. search needs)  -- cold-requires
+    (λ c κs. search needs)  -- numbers-of-requires
+    (λ c κs. search needs)  -- answer-requires
+    (λ c. search needs)  -- same-length
+    (λ c. search needs)  -- same-length-2
+    (λ c. search needs)  -- same-length-3
+    returns-2)

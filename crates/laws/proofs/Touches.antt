@@ -1,0 +1,101 @@
+-- An accepted cold list is its gets, an accepted touch its get and then its put; a scan's touch leaves every key as cold as it was. Assumes nothing.
+use mathlib.Core.Path.{_≡_, refl, sym, ap, subst, _∙_}
+use mathlib.Core.Bool.{Bool, true, false, not, _&&_}
+use mathlib.Core.Logic.{⊎-elim}
+use Prim.Native.Nat.{ℕ, zero, suc, _≤_, _<_}
+use native.Mathlib.Omega.{arith}
+use lib.Dec.{eqb}
+use borrow.Author.Tests.{ne-eqb}
+use Rattle.clock.specs.Map.{if_then_else_}
+use Rattle.clock.proofs.Maps.{both, at-is₂}
+use Rattle.clock.specs.Vector.{zeros}
+use Rattle.layout.specs.State.{State, Entry}
+use Rattle.rules.specs.Sound.{Sound}
+use Rattle.rules.specs.Touch.{hourOf, touchOf, wellFormed, keepsHour, touched, recorded, never, malformed, aged, age, kind}
+use Rattle.rules.specs.Steps.{Outcome, put, learn, learnAll, get, touch, cold}
+use Rattle.rules.specs.Calls.{Put, Get, Cold, Touch, refusals, step, run}
+use Rattle.laws.specs.Touches.{ColdAnswers, getsBelow, ColdIsGets, TouchIsBoth, ScanKeepsColdness}
+use Rattle.laws.proofs.Ready.{GetReady, put-ready, get-ready, TouchReady, touch-ready, cold-ready}
+use Rattle.laws.proofs.Given.{run-accepted}
+use Rattle.laws.proofs.Codes.{accepted-first}
+use Rattle.laws.proofs.Records.{touch-back, touch-formed}
+use Rattle.laws.proofs.Touching.{learn-apart, learnAll-apart, apart-sound, apart-ready}
+use Rattle.laws.proofs.After.{after-run}
+
+pub touch-is-both : TouchIsBoth
+unfolding refusals step get touch put
+touch-is-both S s x now u r z =
+    let a = run-accepted S (Touch s x now u r) z in
+    let P = touch-ready S s x now u r (a .0) .put in
+    let v = touched (S .store s x .value) now u r in
+    let g : run S (Get s x) .answer .code ≡ 0 = accepted-first S (Get s x) refl .1 (get-ready S s x .1 (record { sound = P .sound; site = P .site; key = P .key })) in
+    let f : run S (Get s x) .after ≡ learn S s x = ap (λ (o : Outcome). o .after) (run-accepted S (Get s x) g .1) in
+    let w = accepted-first (learn S s x) (Put s x v) refl .1 (put-ready (learn S s x) s x .1 (apart-ready (learn-apart S s x) P)) in
+    record { gets = g; puts = a .1 ∙ sym (run-accepted (learn S s x) (Put s x v) w .1) ∙ ap (λ (T : State). run T (Put s x v)) (sym f) }
+
+pub cold-answers : ColdAnswers
+unfolding step cold
+cold-answers S s now T m z = ap (λ (o : Outcome). o .answer) (run-accepted S (Cold s now T m) z .1)
+
+-- an accepted get is what it learns
+get-learns : (S : State) (s x : ℕ) → GetReady S s x → run S (Get s x) .after ≡ learn S s x
+unfolding refusals step get
+get-learns S s x R = ap (λ (o : Outcome). o .after) (run-accepted S (Get s x) (accepted-first S (Get s x) refl .1 (get-ready S s x .1 R)) .1)
+
+gets-learn : (S : State) (s m : ℕ) → Sound S → s < S .n → m ≤ S .k → getsBelow S s m ≡ learnAll S s m
+unfolding learnAll
+gets-learn S s zero D h l = refl
+gets-learn S s (suc m) D h l =
+    let p = learnAll-apart S s m in
+    let R : GetReady (learnAll S s m) s m =
+    record { sound = apart-sound p D; site = rw (p .1) h; key = rw (p .1) (omega arith) } in
+    ap (λ (T : State). run T (Get s m) .after) (gets-learn S s m D h (omega arith)) ∙ get-learns (learnAll S s m) s m R
+
+pub cold-is-gets : ColdIsGets
+unfolding refusals step cold
+cold-is-gets S s now T m z =
+    let a = run-accepted S (Cold s now T m) z in
+    let R = cold-ready S s now T m (a .0) in
+    ap (λ (o : Outcome). o .after) (a .1) ∙ sym (gets-learn S s (S .k) (R .sound) (R .site) (omega arith))
+
+-- a written entry with a well formed record, by its hour
+kind-recorded : (hour T : ℕ) (e : Entry) → recorded e ≡ true → kind hour T e ≡ aged T (age hour (hourOf (e .value)))
+unfolding kind
+kind-recorded hour T e = go (eqb (e .clock) 0) (wellFormed (e .value))
+  where
+    go : (a b : Bool) → not a && b ≡ true → (if a then never else if b then aged T (age hour (hourOf (e .value))) else malformed) ≡ aged T (age hour (hourOf (e .value)))
+    go true b q = both q refl
+    go false true q = refl
+    go false false q = both q refl
+
+module _ (S : State) (s x now u r : ℕ) (h : keepsHour u ≡ true) (R : TouchReady S s x now u r) where
+  abbrev old : ℕ
+  old = S .store s x .value
+
+  -- the record that a scan puts has the old hour
+  scanned : touched old now u r ≡ touchOf (hourOf old) u r
+  scanned = rw h
+
+  new-recorded : (c : ℕ) → recorded (record { value = touched old now u r; origin = s; zero = 0; clock = suc c; depends = zeros }) ≡ true
+  new-recorded c = rw (ne-eqb (suc c) 0 (λ e. omega arith), scanned) (touch-formed (hourOf old) u r (R .toucher) (R .tier))
+
+  same-kind : (hour T c : ℕ) → kind hour T (record { value = touched old now u r; origin = s; zero = 0; clock = suc c; depends = zeros }) ≡ kind hour T (S .store s x)
+  same-kind hour T c =
+      kind-recorded hour T _ (new-recorded c)
+      ∙ ap (λ (h : ℕ). aged T (age hour h)) (ap hourOf scanned ∙ touch-back (hourOf old) u r (R .toucher) (R .tier) .0)
+      ∙ sym (kind-recorded hour T (S .store s x) (R .old h))
+
+  step-keeps : (hour T y : ℕ) → kind hour T (touch S s x now u r .after .store s y) ≡ kind hour T (S .store s y)
+  unfolding touch put
+  step-keeps hour T y =
+      let p = learn-apart S s x in
+      ⊎-elim
+      (λ q. ap (kind hour T) (q .2) ∙ same-kind hour T _ ∙ ap (λ (z : ℕ). kind hour T (S .store s z)) (q .1))
+      (λ q. ap (kind hour T) (q .1 ∙ ap (λ (Q : State). Q .store s y) (p .1)))
+      (at-is₂ (learn S s x .store) s x _ s y)
+
+pub scan-keeps-coldness : ScanKeepsColdness
+unfolding step
+scan-keeps-coldness S s x now u r h hour T y =
+    after-run S (Touch s x now u r) (λ Q. kind hour T (Q .store s y) ≡ kind hour T (S .store s y))
+    (λ z. step-keeps S s x now u r h (touch-ready S s x now u r z) hour T y) refl

@@ -1,0 +1,38 @@
+-- What the steps of a touch may rely on, where no condition of it holds. Assumes nothing.
+use mathlib.Core.Path.{_≡_, sym, ap, _∙_}
+use mathlib.Core.List.{List}
+use Prim.Native.Nat.{ℕ, _<_}
+use native.Mathlib.Omega.{arith}
+use lib.ListN.{length}
+use Rattle.layout.specs.State.{State, stateOf, table}
+use Rattle.rules.specs.Steps.{learn}
+use Rattle.rules.specs.Refusals.{first}
+use Rattle.rules.specs.Calls.{Touch, asks}
+use Rattle.laws.proofs.Ready.{GetReady, TouchReady, touch-ready}
+use Rattle.laws.proofs.Keeps.{get-origin}
+use Rattle.laws.proofs.Touching.{learn-apart}
+use Rattle.laws.proofs.Serving.{asks-clear}
+use Rattle.table.specs.Asked.{GetFits, PutFits}
+
+module _ (t : List ℕ) (s x hour u r : ℕ) (z : first (asks t (Touch s x hour u r)) ≡ 0) where
+  pub size : length t ≡ table .width
+  size = asks-clear t (Touch s x hour u r) z .0
+
+  pub ready : TouchReady (stateOf t) s x hour u r
+  ready = touch-ready (stateOf t) s x hour u r (asks-clear t (Touch s x hour u r) z .1)
+
+  pub small : (s < 8) × (x < 64)
+  small = let P = ready .put in (omega (arith, P .site, P .sound .sites), omega (arith, P .key, P .sound .keys))
+
+  pub get-fits : GetFits t s x
+  get-fits =
+      let P = ready .put in
+      let G : GetReady (stateOf t) s x = record { sound = P .sound; site = P .site; key = P .key } in
+      record { size = size; site = small .0; key = small .1; origin = λ n. omega (arith, get-origin (stateOf t) s x G n, P .sound .sites) }
+
+  -- the get leaves the counts
+  pub put-fits : (t′ : List ℕ) → length t′ ≡ length t → stateOf t′ ≡ learn (stateOf t) s x → PutFits t′ s x
+  put-fits t′ l e =
+      let p = learn-apart (stateOf t) s x in
+      let same : stateOf t′ .applied s s ≡ stateOf t .applied s s = ap (λ (S : State). S .applied s s) e ∙ ap (λ (S : State). S .applied s s) (p .1) in
+      record { size = l ∙ size; site = small .0; key = small .1; clock = λ n. ready .put .clock (sym same ∙ n) }

@@ -1,0 +1,70 @@
+//! A table, and its calls with their replies read as the five numbers. Each test uses its part.
+#![allow(dead_code)]
+
+use twin::{cold, deliver, drain, get, open, put, touch, LIST_BYTES, REPLY_BYTES, TABLE_BYTES};
+
+pub struct Session {
+    pub table: Vec<u8>,
+    pub list: [u8; LIST_BYTES],
+}
+
+pub type Numbers = [u32; 5];
+
+pub fn opened(sites: u64, keys: u64) -> Session {
+    let mut session = Session { table: vec![0xA5; TABLE_BYTES], list: [0xA5; LIST_BYTES] };
+    assert_eq!(session.open(sites, keys), [0; 5]);
+    session
+}
+
+impl Session {
+    fn call(&mut self, call: impl FnOnce(&mut [u8], &mut [u8]) -> u32) -> Numbers {
+        let mut reply = [0xA5; REPLY_BYTES];
+        let code = call(&mut self.table, &mut reply);
+        let [told, key, site, zero, clock_high, clock_low, zero_2, zero_3, value @ ..] = reply;
+        assert_eq!([code, 0, 0, 0], [told, zero, zero_2, zero_3].map(u32::from));
+        let clock = u16::from_be_bytes([clock_high, clock_low]);
+        [code, key.into(), site.into(), clock.into(), u32::from_be_bytes(value)]
+    }
+
+    pub fn open(&mut self, sites: u64, keys: u64) -> Numbers {
+        self.call(|table, reply| open(sites, keys, table, reply))
+    }
+
+    pub fn put(&mut self, site: u64, key: u64, value: u32) -> Numbers {
+        self.call(|table, reply| put(site, key, value, table, reply))
+    }
+
+    pub fn get(&mut self, site: u64, key: u64) -> Numbers {
+        self.call(|table, reply| get(site, key, table, reply))
+    }
+
+    pub fn deliver(&mut self, site: u64, origin: u64) -> Numbers {
+        self.call(|table, reply| deliver(site, origin, table, reply))
+    }
+
+    pub fn drain(&mut self, site: u64, budget: u64) -> Numbers {
+        self.call(|table, reply| drain(site, budget, table, reply))
+    }
+
+    pub fn touch(&mut self, site: u64, key: u64, now: u64, toucher: u64, tier: u64) -> Numbers {
+        self.call(|table, reply| touch(site, key, now, toucher, tier, table, reply))
+    }
+
+    pub fn cold(&mut self, site: u64, now: u64, threshold: u64) -> Numbers {
+        let mut list = self.list;
+        let answer = self.call(|table, reply| cold(site, now, threshold, table, &mut list, reply));
+        self.list = list;
+        answer
+    }
+
+    /// The list, as the answer counts it; what follows is zero.
+    pub fn listed(&self, answer: Numbers) -> &[u8] {
+        let (listed, rest) = self.list.split_at(answer[1] as usize);
+        assert!(rest.iter().all(|&byte| byte == 0));
+        listed
+    }
+}
+
+pub fn refused(code: u32) -> Numbers {
+    [code, 0, 0, 0, 0]
+}
