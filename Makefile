@@ -6,10 +6,12 @@
 # make policy: a month of a policy that moves cold files, here and with scans that make them look fresh
 # make play FILE=x.sched: a schedule written as text, beside its answers
 # make draw FILE=x.sched: the same as a picture, build/x.svg
+# make table FILE=x.sched: the table that a schedule leaves, as bytes, build/x.table
+# make waits FILE=build/x.table: of each link of a table, whether it is ready or what it waits for
 # make soak SECONDS=n: random schedules and random calls, half of the time each
 # make bench: the library against the second program, in turns
 # make times: the proving seconds of each crate, from nothing
-.PHONY: help test run lib install story policy play draw soak bench times
+.PHONY: help test run lib install story policy play draw table waits soak bench times
 
 PREFIX ?= /usr/local
 SECONDS ?= 600
@@ -61,6 +63,17 @@ play: target/bin/run_schedule
 draw: target/bin/run_schedule
 	@mkdir -p build
 	@tools/spacetime "$(FILE)" >build/$(basename $(notdir $(FILE))).svg
+
+build/table build/waits: build/%: tools/%.c lib
+	@$(CC) $(STRICT) $(CFLAGS) -Ibuild $< $(LIBRARY) -o $@
+
+table: build/table
+	@tools/sched encode "$(FILE)" >build/table.schedule
+	@tools/sched decode <build/table.schedule >build/table.text
+	@build/table <build/table.text >build/$(basename $(notdir $(FILE))).table
+
+waits:
+	@tools/waits "$(FILE)"
 
 soak:
 	@SECONDS_TO_RUN=$$(($(SECONDS) / 2)) tests/schedules/run

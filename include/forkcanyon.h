@@ -86,7 +86,7 @@ enum fc_code {
     FC_SPENT = 7,   /* a put or touch: applied(site, site) is 65,535; the site can put no more */
     FC_ROOM = 8,    /* a put or touch: some site has applied 16 fewer of this site's puts than it has made */
     FC_NONE = 9,    /* fc_deliver: applied(site, origin) equals applied(origin, origin) */
-    FC_WAITS = 10,  /* fc_deliver: the site lacks a cause of the update; the reply names it */
+    FC_WAITS = 10,  /* fc_deliver: the site lacks causes of the update; the reply names the sites they are of */
     FC_BUDGET = 11, /* fc_drain: the budget was spent with a try due; what was delivered stays */
     FC_UNUSED = 12, /* only in a schedule: a step with a field set that it does not use */
     FC_RECORD = 13, /* fc_touch, by the scan or by migration: the key has no touch record, so no hour to keep */
@@ -138,12 +138,15 @@ uint32_t fc_get(uint64_t site, uint64_t key,
  *
  * FC_OK: the reply holds the update's key, origin (as site), clock and value, and the site now holds
  * it. What the site depends on does not change until it gets the key.
- * FC_WAITS: the reply's site and clock name the lowest site of which a cause is missing, and its
- * clock: deliver that site's updates up to this clock first. That can always be done in a table that
- * was opened and then changed only by these calls. In any other one, sound as it may be, the named
- * site can be at or above n: then nothing will ever bring what the update waits for, and its
- * origin's later updates wait behind it until FC_ROOM stops the puts there. Go back to a copy from
- * before the damage, or open a new table and put into it what fc_get still reads in this one.
+ * FC_WAITS: the reply's value says all sites of which a cause is missing, bit m (worth 2 to the
+ * power m) for site m: ask fc_waits_for(). 1 is site 0 alone, 6 the sites 1 and 2, 128 site 7. The
+ * reply's site and clock name the lowest of them, and the clock up to which its updates must be applied
+ * first. Deliver from each site that is named: fc_drain(), or all their links at once. That can
+ * always be done in a table that was opened and then changed only by these calls. In any other one,
+ * sound as it may be, a named site can be at or above n: then nothing will ever bring what the
+ * update waits for, and its origin's later updates wait behind it until FC_ROOM stops the puts
+ * there. Go back to a copy from before the damage, or open a new table and put into it what fc_get
+ * still reads in this one.
  * Refusals: FC_SIZE, FC_UNSOUND, FC_SITE, FC_SAME, FC_NONE, FC_WAITS.
  */
 uint32_t fc_deliver(uint64_t site, uint64_t origin,
@@ -247,6 +250,7 @@ static inline unsigned fc_tier(uint32_t value)
 /*
  * The five numbers of a reply. For fc_drain, clock holds the deliveries and value the tries; for
  * fc_cold, key holds the keys listed, site the clocks ahead and clock the malformed values.
+ * Beside FC_WAITS, value holds the sites waited for, see fc_waits_for().
  */
 struct fc_answer {
     uint8_t code;
@@ -269,6 +273,12 @@ static inline struct fc_answer fc_read(const uint8_t *reply)
     answer.clock = (uint16_t)(reply[4] << 8 | reply[5]);
     answer.value = (uint32_t)reply[8] << 24 | (uint32_t)reply[9] << 16 | (uint32_t)reply[10] << 8 | reply[11];
     return answer;
+}
+
+/* Whether this is a delivery that waits for updates of the site; 0 for any other answer and any site above 7. */
+static inline int fc_waits_for(struct fc_answer answer, unsigned site)
+{
+    return answer.code == FC_WAITS && site < FC_SITES && (answer.value >> site & 1u) != 0;
 }
 
 #ifdef __cplusplus

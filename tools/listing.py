@@ -5,6 +5,8 @@ import subprocess
 from pathlib import Path
 from typing import NamedTuple
 
+from schedule_bytes import HEADER_BYTES, STEP_BYTES, Step, step_bytes
+
 PROGRAM = Path(__file__).resolve().parent / "run_schedule"
 
 
@@ -47,9 +49,22 @@ def lines_of(listing):
     return [Line(*map(int, line.split())) for line in lines], last
 
 
+def sites_waited_for(line):
+    """Beside a 10 the value is the sum of 2 to the power of each site."""
+    return [site for site in range(8) if line.value >> site & 1]
+
+
+def and_for(sites):
+    """The other sites: nothing, ', and for site 2', ', and for sites 1, 2 and 7'."""
+    if not sites:
+        return ""
+    *first, last = map(str, sites)
+    return f", and for sites {', '.join(first)} and {last}" if first else f", and for site {last}"
+
+
 def in_words(operation, line):
     if line.code == 10:
-        return f"refused: waits for site {line.site}, clock {line.clock}"
+        return f"refused: waits for site {line.site}, clock {line.clock}{and_for(sites_waited_for(line)[1:])}"
     if line.code:
         return f"refused: {REFUSALS[line.code]}"
     if operation == "open":
@@ -59,3 +74,31 @@ def in_words(operation, line):
     if operation == "get" and not line.clock:
         return f"key {line.key} was never written here"
     return f"key {line.key} is {line.value}, put {line.clock} of site {line.site}"
+
+
+def puts_waited_for(schedule, step, line):
+    """The clock for each site that a step, a refused delivery, waits for.
+
+    The answer has the lowest one's. Of another site it is the clock of the delivery after which the step no longer
+    waits for it: so the schedule up to the step is played on, with a delivery from each other site in turns, and the
+    step again behind each.
+    """
+    clocks = {line.site: line.clock}
+    if len(sites_waited_for(line)) == 1:
+        return clocks
+    others = [site for site in range(schedule[0]) if site not in (step.site, step.origin)]
+    asked = [one for other in others for one in (Step("deliver", step.site, other), step)]
+    rounds = 16 * len(others)  # as many updates as can be under way to one site
+    begun = schedule[: HEADER_BYTES + STEP_BYTES * line.step]
+    answers, _ = lines_of(print_listing(begun + b"".join(map(step_bytes, asked)) * rounds))
+    waits = sites_waited_for(line)
+    for brought, again in zip(answers[line.step + 1 :: 2], answers[line.step + 2 :: 2]):
+        still = sites_waited_for(again) if again.code == 10 else []
+        if brought.code == 0 and brought.site in waits and brought.site not in still:
+            clocks[brought.site] = brought.clock
+        if not still:
+            break
+        waits = still
+    if not clocks.keys() >= set(sites_waited_for(line)):
+        raise SystemExit(f"step {line.step}: a schedule has no room behind it to ask for every clock it waits for")
+    return dict(sorted(clocks.items()))

@@ -94,7 +94,7 @@ class Picture:
         self.text(self.x(column), 34, what, PALE)
         self.text(self.x(column), 50, why, PALE)
 
-    def arrow(self, origin, begun, site, column, colour=None, dashes=""):
+    def arrow(self, origin, begun, site, column, colour=None):
         """From the put's mark to the edge of the mark where it arrives."""
         x1, y1, x2, y2 = self.x(begun), self.y(origin), self.x(column), self.y(site)
         length = ((x2 - x1) ** 2 + (y2 - y1) ** 2) ** 0.5
@@ -103,18 +103,22 @@ class Picture:
         back = [tip[0] - along[0] * 10, tip[1] - along[1] * 10]
         wings = [(back[0] + side * along[1] * 4, back[1] - side * along[0] * 4) for side in (1, -1)]
         colour = colour or COLOURS[origin]
-        self.line(x1, y1, *back, colour, 1.6, dashes)
+        self.line(x1, y1, *back, colour, 1.6)
         points = " ".join(f"{x:.1f},{y:.1f}" for x, y in [tip, *wings])
         self.below.append(f'<polygon points="{points}" fill="{colour}"/>')
 
-    def refused_arrow(self, origin, begun, site, column, why):
-        self.arrow(origin, begun, site, column, RED, ' stroke-dasharray="6 4"')
+    def refused_arrow(self, origin, begun, site, column, causes, why):
+        """The delivery, and a dashed line from each missing put, in its site's colour."""
+        self.arrow(origin, begun, site, column, RED)
+        for cause, put in causes:
+            ends = (self.x(put), self.y(cause), self.x(column), self.y(site))
+            self.line(*ends, COLOURS[cause], 1.6, ' stroke-dasharray="6 4"')
         self.cross(site, column, RED)
-        self.labels_aside(site, column, [why], [origin], RED)
+        self.labels_aside(site, column, why, [origin, *(cause for cause, _ in causes)], RED)
 
     def legend(self, y):
         marks = ("● put key = value, named site:clock", "○ get", "■ delivery", "◆ drain", "✕ refused")
-        words = "\u2003".join((*marks, "- - waits for a cause"))
+        words = "\u2003".join((*marks, "- - a put that it waits for"))
         self.text(14, y, words, "#555555", anchor="start", size=12)
 
     def svg(self):

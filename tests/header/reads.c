@@ -1,4 +1,4 @@
-/* The header as C11 and as C++: every number of it, the reader of a reply, and touch records. */
+/* The header as C11 and as C++: every number of it, the reader of a reply and of the sites waited for, and touch records. */
 #include "forkcanyon.h"
 #include "forkcanyon.h"
 
@@ -91,6 +91,17 @@ int main(void)
     expect("site", answer.site, 7);
     expect("clock", answer.clock, 0xFEDC);
     expect("value", answer.value, 0xFFEEDDCC);
+
+    /* Of the sites 0, 1 and 7 a cause is missing, and of no other. */
+    static const uint8_t waits[FC_REPLY_BYTES] = {FC_WAITS, 0, 0, 0, 0, 1, 0, 0, 0, 0, 0, 131};
+    for (unsigned site = 0; site < 70; site++)
+        expect("a site waited for", (unsigned long)fc_waits_for(fc_read(waits), site), site == 0 || site == 1 || site == 7);
+    answer = fc_read(waits);
+    answer.code = FC_OK;
+    expect("a site waited for in another answer", (unsigned long)fc_waits_for(answer, 0), 0);
+    answer.code = FC_WAITS;
+    answer.value = UINT32_MAX;
+    expect("a site above 7", (unsigned long)fc_waits_for(answer, 8), 0);
 
     CODES(EXPECT)
     TOUCHERS(EXPECT)

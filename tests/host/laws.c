@@ -123,12 +123,47 @@ static const char *broken_by_touch(const struct call *call, const uint8_t *befor
     return NULL;
 }
 
+/* The sum of 2 to the power m over the columns m of the next update's vector that are above the applied row. */
+static uint32_t failing_columns(const uint8_t *table, size_t site, size_t origin)
+{
+    unsigned clock = clock_at(table, applied_at(site, origin)) + 1;
+    uint32_t sum = 0, power = 1;
+    for (size_t column = 0; column < FC_SITES; column++, power *= 2)
+        if (clock_at(table, update_at(origin, clock) + RECORD_VECTOR + 2 * column) >
+            clock_at(table, applied_at(site, column)))
+            sum += power;
+    return sum;
+}
+
+/* The lowest site that the answer waits for; 8 if none. */
+static unsigned lowest_waited_for(struct fc_answer answer)
+{
+    unsigned site = 0;
+    while (site < FC_SITES && !fc_waits_for(answer, site))
+        site++;
+    return site;
+}
+
+static const char *broken_by_waiting(const struct call *call, const uint8_t *before, struct outcome after)
+{
+    struct fc_answer answer = fc_read(after.reply);
+    if (answer.value != failing_columns(before, call->numbers[0], call->numbers[1]))
+        return "beside 10, the value is the sum of 2 to the power m over the failing columns m";
+    if (lowest_waited_for(answer) != answer.site)
+        return "beside 10, the site is the lowest of those in the value";
+    return NULL;
+}
+
 const char *broken_law(enum start start, const struct call *call, const uint8_t *before, struct outcome after)
 {
     if (start != ANYTHING && after.code == FC_UNSOUND)
         return "every accepted call on a sound table leaves a sound one";
+    if (after.code != FC_OK && after.code != FC_BUDGET && memcmp(before, after.table, FC_TABLE_BYTES) != 0)
+        return "a refused call keeps all bytes";
+    if (after.code == FC_WAITS)
+        return broken_by_waiting(call, before, after);
     if (after.code != FC_OK && after.code != FC_BUDGET)
-        return memcmp(before, after.table, FC_TABLE_BYTES) != 0 ? "a refused call keeps all bytes" : NULL;
+        return NULL;
     if (call->kind == DELIVER && memcmp(before + DEPENDS, after.table + DEPENDS, STORE - DEPENDS) != 0)
         return "a delivery does not change what the site depends on";
     if (call->kind == GET && (memcmp(before, after.table, DEPENDS) != 0 ||

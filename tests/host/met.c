@@ -21,6 +21,12 @@ void met_note(struct met *met, const struct call *call, uint32_t code, const uin
     met->never_written += call->kind == GET && code == FC_OK && answer.clock == 0;
     met->joined += call->kind == GET && code == FC_OK && changed;
     met->delivered += call->kind == DRAIN && code == FC_OK && answer.clock > 8;
+    unsigned waited = 0;
+    for (unsigned site = 0; site < FC_SITES; site++) {
+        met->waits_for[site] += fc_waits_for(answer, site) != 0;
+        waited += fc_waits_for(answer, site) != 0;
+    }
+    met->waits[waited] += code == FC_WAITS;
     met->stopped_late += call->kind == DRAIN && code == FC_BUDGET && answer.clock > 0;
     met->listed += call->kind == COLD && answer.key > 0;
     met->ahead += call->kind == COLD && answer.site > 0;
@@ -32,7 +38,11 @@ void met_note(struct met *met, const struct call *call, uint32_t code, const uin
 bool met_all(const struct met *met)
 {
     bool all = met->never_written && met->joined && met->delivered && met->stopped_late && met->listed &&
-               met->ahead && met->malformed && met->hours_kept;
+               met->ahead && met->malformed && met->hours_kept && !met->waits[0];
+    for (unsigned site = 0; site < FC_SITES; site++)
+        all = all && met->waits_for[site];
+    for (unsigned sites = 1; sites < 5; sites++)
+        all = all && met->waits[sites];
     for (int kind = 0; kind < KINDS; kind++)
         for (int code = 0; code < CODES; code++)
             all = all && possible[kind][code] == (met->codes[kind][code] > 0);
@@ -61,4 +71,8 @@ void met_print(const struct met *met)
            "touches that keep the hour %llu\n",
            (unsigned long long)met->listed, (unsigned long long)met->ahead, (unsigned long long)met->malformed,
            (unsigned long long)met->hours_kept);
+    fputs("deliveries that wait for 1 site and more", stdout);
+    for (unsigned sites = 1; sites <= FC_SITES; sites++)
+        printf(" %llu", (unsigned long long)met->waits[sites]);
+    putchar('\n');
 }

@@ -12,6 +12,8 @@ struct met {
     uint64_t codes[KINDS][CODES];
     uint64_t never_written, joined, delivered, stopped_late;
     uint64_t listed, ahead, malformed, hours_kept;
+    uint64_t waits[FC_SITES + 1]; /* deliveries that wait for one site, for two, .. */
+    uint64_t waits_for[FC_SITES];
 };
 
 /* Notes a call whose reply is whole; changed: whether the table did. */

@@ -22,6 +22,7 @@ REACHABLE = {
     "get": {0, 4, 6, 12},
     "deliver": {0, 4, 5, 9, 10, 12},
     "drain": {0, 4, 12},
+    "waits": {"1 site", "2 sites", "3 or more"},
     "last": {"end", "cut 0", "cut 1", "cut 2", "cut 3", "cut 4", "cut 5"},
 }
 
@@ -38,12 +39,15 @@ def printed(program, data):
 
 
 def note(met, data, text):
-    """Which code each operation met, and how the listing ends."""
+    """Which code each operation met, for how many sites a delivery waited, and how the listing ends."""
     *lines, last = text.decode().splitlines()
     met["last"].add("end" if last.startswith("end ") else last)
     operations = ["open"] + [step.operation for step in steps_of(data)]
     for operation, line in zip(operations, lines):
-        met[operation].add(int(line.split()[1]))
+        code, value = int(line.split()[1]), int(line.split()[5])
+        met[operation].add(code)
+        if code == 10:
+            met["waits"].add(("no site", "1 site", "2 sites", "3 or more")[min(bin(value).count("1"), 3)])
     return len(lines)
 
 
@@ -62,7 +66,7 @@ def main():
     seconds = float(os.environ.get("SECONDS_TO_RUN") or 0)
     print(f"schedules: SEED={seed}")
     rng = random.Random(seed)
-    met = {name: set() for name in ("open", *OPERATIONS, "last")}
+    met = {name: set() for name in ("open", *OPERATIONS, "waits", "last")}
     played = steps = 0
     until = time.monotonic() + seconds
     while not played or time.monotonic() < until:

@@ -80,9 +80,14 @@ class Tool(unittest.TestCase):
     def test_play_sets_text_beside_answers(self):
         lines = run_tool("sched", "play", str(ROOT / "docs" / "scope.sched")).stdout.decode().splitlines()
         self.assertEqual(len(lines), 9)
-        self.assertEqual(lines[5].split(None, 9)[:9], "deliver 2 1 5 10 0 0 1 0".split())
+        self.assertEqual(lines[5].split(None, 9)[:9], "deliver 2 1 5 10 0 0 1 1".split())
         self.assertTrue(lines[5].endswith("refused: waits for site 0, clock 1"))
         self.assertEqual(lines[8].strip(), "end 7")
+
+    def test_play_names_every_site_waited_for(self):
+        lines = run_tool("sched", "play", str(ROOT / "docs" / "waits.sched")).stdout.decode().splitlines()
+        self.assertTrue(lines[10].endswith("refused: waits for site 0, clock 1, and for sites 1 and 2"), lines[10])
+        self.assertTrue(lines[13].endswith("refused: waits for site 0, clock 1, and for site 2"), lines[13])
 
     def test_play_says_every_refusal(self):
         refused = b"put 2 0 1\nget 0 1\ndeliver 0 0\ndeliver 0 1\ndrain 0 key=1\n"

@@ -32,6 +32,34 @@ class Pictures(unittest.TestCase):
         for words in ("put 1 = 7", "0:1", "key 1 of 0:1", "waits for 0:1", "2 in 6 tries", "7 of 0:1"):
             self.assertIn(words, words_in(run.stdout))
 
+    def test_a_dashed_line_from_each_put_waited_for(self):
+        run = run_tool("spacetime", str(ROOT / "docs" / "waits.sched"))
+        found = words_in(run.stdout)
+        for words in ("waits for 0:1", "1:2 2:1", "2:1"):
+            self.assertIn(words, found)
+        lines = ElementTree.fromstring(run.stdout).iterfind("svg:line", NAMES)
+        dashed = [(line.get("x1"), line.get("y1")) for line in lines if line.get("stroke-dasharray")]
+        # From 0:1, 1:2 and 2:1 to step 10, then from 0:1 and 2:1 to step 13.
+        self.assertEqual(len(dashed), 5)
+        self.assertEqual(dashed[0], dashed[3])
+        self.assertEqual(dashed[2], dashed[4])
+        self.assertEqual(len(set(dashed)), 3)
+
+    def test_a_cause_that_waits_itself(self):
+        chain = "put 0 0 1\nput 0 0 2\ndrain 1\nget 1 0\nput 1 1 3\ndrain 2\nget 2 1\nput 2 2 4\ndeliver 3 2\n"
+        picture = drawn("sites 4 keys 3\n" + chain).stdout
+        self.assertIn("waits for 0:2", words_in(picture))
+        lines = ElementTree.fromstring(picture).iterfind("svg:line", NAMES)
+        # From 0:2 and from 1:1, on the lines of two sites.
+        self.assertEqual(len({line.get("y1") for line in lines if line.get("stroke-dasharray")}), 2)
+
+    def test_no_room_to_ask_for_a_clock(self):
+        before = (ROOT / "docs" / "waits.sched").read_text().partition("deliver 4 1")[0]
+        steps = len([line for line in before.splitlines() if line.partition("#")[0].strip()]) - 1
+        run = drawn(before + "get 0 0\n" * (10922 - steps - 2) + "deliver 4 3\n")
+        self.assertEqual((run.returncode, run.stdout), (1, b""))
+        self.assertIn(b"step 10921: a schedule has no room behind it", run.stderr)
+
     def test_other_refusals(self):
         run = drawn("sites 2 keys 1\nput 7 0 0\ndeliver 1 0\nget 0 0\ndrain 0 key=1\n")
         found = words_in(run.stdout)

@@ -79,9 +79,13 @@ pub fn try_delivery(table: &mut Table, site: usize, origin: usize) -> Outcome {
     }
     let clock = applied[origin] + 1;
     let update = table.update(origin, clock);
-    if let Some(column) = (0..SITES).find(|&column| update.depends[column] > applied[column]) {
+    // "The sum of 2 to the power m over them": the failing columns as bits, of which site and clock name the lowest.
+    let failing = (0..SITES).filter(|&column| update.depends[column] > applied[column]);
+    let mask = failing.fold(0u32, |bits, column| bits | 1 << column);
+    if mask != 0 {
+        let lowest = mask.trailing_zeros() as usize;
         let waits = Answer::refused(Code::CauseMissing);
-        return Err(Answer { site: column as u8, clock: update.depends[column], ..waits });
+        return Err(Answer { site: lowest as u8, clock: update.depends[lowest], value: mask, ..waits });
     }
     table.set_entry(site, update.name.into(), Record { name: origin as u8, clock, ..update });
     table.set_applied(site, origin, clock);

@@ -12,7 +12,7 @@ fn before_the_drain() -> Session {
     assert_eq!(session.deliver(1, 0), [0, 1, 0, 1, 7]);
     assert_eq!(session.get(1, 1), [0, 1, 0, 1, 7]);
     assert_eq!(session.put(1, 2, 9), [0, 2, 1, 1, 9]);
-    assert_eq!(session.deliver(2, 1), [10, 0, 0, 1, 0]);
+    assert_eq!(session.deliver(2, 1), [10, 0, 0, 1, 1]);
     session
 }
 
@@ -21,7 +21,7 @@ const SCHEDULE: [u8; 44] = [
     0xD0, 0, 0, 0, 0, 0, 0x50, 1, 0, 0, 0, 0,
 ];
 const LISTING: &str = "0 0 0 0 0 0\n1 0 1 0 1 7\n2 0 1 0 1 7\n3 0 1 0 1 7\n4 0 2 1 1 9\n\
-                       5 10 0 0 1 0\n6 0 0 0 2 6\n7 0 1 0 1 7\n";
+                       5 10 0 0 1 1\n6 0 0 0 2 6\n7 0 1 0 1 7\n";
 
 #[test]
 fn the_documents_listing() {
@@ -155,7 +155,7 @@ fn cases_9_and_10_gets_that_change_nothing() {
 
 #[test]
 fn cases_11_and_12_a_get_makes_the_cause() {
-    for (reads, answer) in [(false, [0, 1, 1, 1, 6]), (true, [10, 0, 0, 1, 0])] {
+    for (reads, answer) in [(false, [0, 1, 1, 1, 6]), (true, [10, 0, 0, 1, 1])] {
         let mut session = opened(3, 2);
         session.put(0, 0, 5);
         session.deliver(1, 0);
@@ -165,6 +165,28 @@ fn cases_11_and_12_a_get_makes_the_cause() {
         session.put(1, 1, 6);
         assert_eq!(session.deliver(2, 1), answer);
     }
+}
+
+#[test]
+fn a_delivery_names_every_site_it_waits_for() {
+    let mut session = opened(8, 3);
+    for (key, site) in [0, 2, 7].into_iter().enumerate() {
+        session.put(site, key as u64, 5);
+        session.put(site, key as u64, 6);
+        session.drain(3, 903);
+        session.get(3, key as u64);
+    }
+    session.put(3, 0, 9);
+    assert_eq!(session.deliver(4, 3), [10, 0, 0, 2, 1 + 4 + 128]);
+    assert_eq!(session.drain(4, 3)[0], 11); // both puts of site 0: its column equals the count
+    assert_eq!(session.deliver(4, 3), [10, 0, 2, 2, 4 + 128]);
+    session.deliver(4, 2);
+    session.deliver(4, 7); // one of two: the column is still above the count
+    assert_eq!(session.deliver(4, 3), [10, 0, 2, 2, 4 + 128]);
+    session.deliver(4, 2);
+    assert_eq!(session.deliver(4, 3), [10, 0, 7, 2, 128]);
+    session.deliver(4, 7);
+    assert_eq!(session.deliver(4, 3), [0, 0, 3, 1, 9]);
 }
 
 #[test]

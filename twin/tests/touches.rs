@@ -150,7 +150,7 @@ fn a_touch_is_its_get_and_its_put() {
     both.put(1, 0, record(7, 1, 2));
     assert_eq!(session.table, both.table);
     // It depends on what it got.
-    assert_eq!(session.deliver(2, 1), [10, 0, 0, 1, 0]);
+    assert_eq!(session.deliver(2, 1), [10, 0, 0, 1, 1]);
 }
 
 #[test]

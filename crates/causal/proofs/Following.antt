@@ -1,13 +1,15 @@
 -- The calls of a sound table are figure 7's steps: demand 2 on plain numbers. Assumes nothing.
 use mathlib.Core.Path.{_≡_, refl, sym, ap, subst, _∙_}
+use mathlib.Core.Bool.{Bool}
 use mathlib.Core.List.{_∷_}
 use mathlib.Core.Logic.{⊎-elim, _↔_, _≢_, Iff·trans, Iff·symm}
 use Prim.Native.Nat.{ℕ, _+_, _≤_, _<_}
 use native.Mathlib.Omega.{arith}
 use borrow.Author.Tests.{ne-eqb, ltb-true, ltb-false}
-use Rattle.clock.specs.Map.{any}
-use Rattle.clock.proofs.Maps.{both, eq?, true-or-false}
-use Rattle.clock.proofs.Says.{Denies, denies-lt, denies-any}
+use Rattle.clock.specs.Map.{any, bit}
+use Rattle.clock.proofs.Maps.{both, eq?, le?, true-or-false}
+use Rattle.clock.proofs.Says.{Says, says-lt, Denies, denies-lt, denies-any}
+use Rattle.clock.proofs.Bits.{bit-above}
 use Rattle.layout.specs.State.{State, lastClock}
 use Rattle.rules.specs.Sound.{sound, Sound}
 use Rattle.rules.specs.Steps as r
@@ -23,7 +25,7 @@ use Rattle.causal.specs.World as w
 use Rattle.causal.specs.World.{World, Answer, Behind, CausesApplied, put, get, update, PUT, GET, UPDATE, withPut, withGet, withUpdate}
 use Rattle.causal.specs.Refines.{Tops, Abstracts, answer, numbers, Steps, Refines, Tells, Follows}
 use Rattle.causal.proofs.Sites.{next}
-use Rattle.causal.proofs.Vectors.{tops-worst}
+use Rattle.causal.proofs.Vectors.{tops-worst, same-answers}
 use Rattle.causal.proofs.Related.{put-next, put-related, get-related, deliver-numbers, deliver-related, same-due, same-check, same-waiting}
 
 -- a call with its step, and what is ready exactly when the step is taken
@@ -201,8 +203,22 @@ module _ (S : State) (D : Sound S) (W : World) (A : Abstracts S W) (s o : ℕ) w
     greatest : (c′ : ℕ) → w.waiting W s o .depends (a .site) c′ → c′ ≤ a .clock
     greatest c′ m = omega (arith, T .above (a .site) c′ m, M .clock)
 
+    -- the premise fails for site m
+    abbrev Fails : (m count : ℕ) → Type 0
+    Fails m count = (c : ℕ) × w.waiting W s o .depends m c × (count < c)
+
+    waits : (m : ℕ) → Says (bit (a .value) m) (Fails m (W .applied s m))
+    waits m =
+        ⊎-elim
+        (λ (h : 8 ≤ m). ((λ e. both e (bit-above 8 (a .value) m (M .below) h)), λ f. absurd (omega (arith, T .eight m (f .0) (f .1)))))
+        (λ (h : m < 8).
+        subst (λ (t : Bool). Says t (Fails m (W .applied s m))) (sym (M .bits m h))
+        (subst (λ (n : ℕ). Says (missing S s o m) (Fails m n)) (sym (A .applied s m hs h))
+        (Iff·trans (says-lt _ _) (Iff·symm (same-answers _ _ T .fails (S .applied s) m h)))))
+        (le? 8 m)
+
   pub tells : Tells S W s o a
-  tells = record { nine = nine; ten = ten; fails = fails; lowest = lowest; greatest = greatest }
+  tells = record { nine = nine; ten = ten; fails = fails; lowest = lowest; greatest = greatest; waits = waits; eight = λ z. M z .below }
 
 pub follows : (S : State) → Sound S → (W : World) → Abstracts S W → Follows S W (run S)
 follows S D W A = record { puts = λ s x v h. puts S D W A s x v; gets = gets S D W A; delivers = delivers S D W A; tells = tells S D W A }

@@ -1,12 +1,12 @@
 -- What the table's numbers mean in figure 7, when a call is figure 7's step, and what the history of calls must be. Assumes nothing.
 use mathlib.Core.Path.{_≡_}
-use mathlib.Core.Bool.{_||_}
+use mathlib.Core.Bool.{true, _||_}
 use mathlib.Core.List.{List, [], _∷_, _++_, map}
 use mathlib.Core.Logic.{_⊎_, _↔_, _≢_}
 use Prim.Native.Nat.{ℕ, zero, suc, _+_, _^_, _≤_, _<_}
 use lib.Dec.{eqb}
 use lib.ListN.{length}
-use Rattle.clock.specs.Map.{if_then_else_}
+use Rattle.clock.specs.Map.{if_then_else_, bit}
 use Rattle.clock.specs.Lists.{_∈_}
 use Rattle.clock.specs.Vector.{Vector, join, note}
 use Rattle.layout.specs.State.{State, lastClock}
@@ -90,13 +90,16 @@ pub record Refines (S : State) (W : World) (c : Call) (P : Type 0) (r : Outcome)
   pub accepted : r .answer .code ≡ 0 → Steps S W c r
   pub refused : r .answer .code ≢ 0 → r .after ≡ S
 
--- 9 and 10 say which premise of UPDATE fails; 10 names the lowest failing site and the greatest clock that it has in the set
+-- 9 and 10 say which premise of UPDATE fails; 10 names the lowest failing site and the greatest clock that it has in the set,
+-- and bit m of its value is set exactly when the premise fails for site m: some pair (m, c) of the set has c above the applied count of m
 pub record Tells (S : State) (W : World) (s o : ℕ) (a : Numbers) : Type 0 where
   pub nine : (a .code ≡ 9) ↔ ((s < S .n) × (o < S .n) × (s ≢ o) × (Behind W s o → ⊥))
   pub ten : (a .code ≡ 10) ↔ ((s < S .n) × (o < S .n) × (s ≢ o) × Behind W s o × (CausesApplied W s o → ⊥))
   pub fails : a .code ≡ 10 → waiting W s o .depends (a .site) (a .clock) × (W .applied s (a .site) < a .clock)
   pub lowest : a .code ≡ 10 → (o′ c′ : ℕ) → o′ < a .site → waiting W s o .depends o′ c′ → c′ ≤ W .applied s o′
   pub greatest : a .code ≡ 10 → (c′ : ℕ) → waiting W s o .depends (a .site) c′ → c′ ≤ a .clock
+  pub waits : a .code ≡ 10 → (m : ℕ) → (bit (a .value) m ≡ true) ↔ ((c : ℕ) × waiting W s o .depends m c × (W .applied s m < c))
+  pub eight : a .code ≡ 10 → a .value < 256
 
 -- a call is accepted exactly when names, room (clocks to 65,535, sixteen places for each origin) and figure 7 allow it
 pub record Follows (S : State) (W : World) (result : Call → Outcome) : Type 1 where

@@ -1,9 +1,11 @@
 -- A short run of figure 7 worked out step by step, and the smallest case of each definition. Assumes nothing.
 use mathlib.Core.Path.{_≡_, refl}
-use mathlib.Core.List.{[], _∷_}
+use mathlib.Core.Bool.{true, false}
+use mathlib.Core.List.{[], _∷_, map}
 use mathlib.Core.Logic.{inl, inr}
 use Prim.Native.Nat.{ℕ}
 use native.Mathlib.Omega.{arith}
+use Rattle.clock.specs.Map.{bit}
 use Rattle.clock.specs.Vector.{zeros, note}
 use Rattle.layout.specs.State.{State}
 use Rattle.rules.specs.Steps.{done, refused}
@@ -128,6 +130,11 @@ marks = refl
 -- a cause at the eighth site counts
 eighth : Within (note zeros 7 1) zeros → ⊥
 eighth f = omega (arith, f 7 (omega arith))
+
+-- beside a 10, 131 = 1 + 2 + 128 names the sites 0, 1 and 7 and no other
+named : map (bit 131) (0 ∷ 1 ∷ 2 ∷ 3 ∷ 4 ∷ 5 ∷ 6 ∷ 7 ∷ 8 ∷ []) ≡ true ∷ true ∷ false ∷ false ∷ false ∷ false ∷ false ∷ true ∷ false ∷ []
+unfolding bit
+named = refl
 
 -- what a label says, and the history after accepted and refused calls
 says : numbers (put 0 1 7 2) ∷ numbers (get 1 1 never) ∷ numbers (get 1 1 (wrote 7 0 2)) ∷ numbers (update 1 0 2 1 7) ∷ []

@@ -40,7 +40,7 @@ which : map (λ (c : Case). c .number) cases ≡ 1 ∷ 3 ∷ 4 ∷ 5 ∷ 6 ∷ 7
 unfolding cases
 which = refl
 
-how-many : length bounds ≡ 23
+how-many : length bounds ≡ 26
 unfolding bounds
 how-many = refl
 
@@ -98,7 +98,7 @@ claims =
             bytes-long = bytes-long;
             sizes = (the-widths, the-offsets);
             worked-table = (worked.long, worked.header, worked.applied, worked.depends, worked.entry, worked.update);
-            worked-replies = (replies.reply, replies.put, replies.spent);
+            worked-replies = (replies.reply, replies.put, replies.spent, replies.waits);
             wrong-reply = wrong-reply;
             wrong-table = wrong-table;
             size-exactly = size-exactly;

@@ -8,6 +8,7 @@ use native.Mathlib.Decide.{decLe}
 use lib.ListN.{length}
 use borrow.Author.Tests.{eq-eqb}
 use Rattle.clock.specs.Lists.{_∈_, Before}
+use Rattle.clock.proofs.Maps.{true-or-false}
 use Rattle.layout.specs.State.{State, table, stateOf}
 use Rattle.layout.specs.Ranges.{Bytes}
 use Rattle.rules.specs.Sound.{Sound}
@@ -122,6 +123,12 @@ of-table t W F =
             T .fails z .0,
             λ o′ c′ k l. lowest (a .site) o′ (λ h. omega (arith, T .lowest z o′ c′ h k)),
             T .greatest z,
+          );
+      waits = λ s o z.
+          let T = F .tells s o in (
+            (λ m c k l. T .waits z m .1 (c, k, l)),
+            (λ m f. ⊎-elim (λ e. let (c, k, l) = T .waits z m .0 e in absurd (omega (arith, f c k))) (λ e. e) (true-or-false _)),
+            T .eight z,
           );
     }
   where

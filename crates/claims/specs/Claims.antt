@@ -93,7 +93,7 @@ pub record OfCases : Type 0 where
   pub at-bounds : Computed bounds
   -- all of them: case 15 has two tables, 0 is the schedule
   pub which : map (λ (c : Case). c .number) cases ≡ 1 ∷ 3 ∷ 4 ∷ 5 ∷ 6 ∷ 7 ∷ 9 ∷ 10 ∷ 11 ∷ 12 ∷ 13 ∷ 15 ∷ 15 ∷ 0 ∷ []
-  pub how-many : length bounds ≡ 23
+  pub how-many : length bounds ≡ 26
   -- touch and the cold list; records, kinds and the list at their edges
   pub touches : Computed touches × (length touches ≡ 10)
   pub records : Says parts × Says forms × Says kinds × Says listed-so × Says words-first
@@ -112,7 +112,7 @@ pub record OfBytes : Type 0 where
   -- document 01's sizes and places, a worked table at them, and worked replies
   pub sizes : Says the-widths × Says the-offsets
   pub worked-table : Says worked.long × Says worked.header × Says worked.applied × Says worked.depends × Says worked.entry × Says worked.update
-  pub worked-replies : Says replies.reply × Says replies.put × Says replies.spent
+  pub worked-replies : Says replies.reply × Says replies.put × Says replies.spent × Says replies.waits
   -- code 1 at the host: a reply or a table of another size
   pub wrong-reply : WrongReply
   pub wrong-table : WrongTable

@@ -1,9 +1,11 @@
 -- The demands at their edges: each field uses a field of a demand, an order or an anomaly, so that one that is lost or says less is an error. Assumes nothing.
 use mathlib.Core.Path.{_≡_}
+use mathlib.Core.Bool.{true, false}
 use mathlib.Core.List.{List, [], _∷_}
 use mathlib.Core.Logic.{_≢_}
 use Prim.Native.Nat.{ℕ, suc, _+_, _^_, _≤_, _<_}
 use lib.ListN.{length}
+use Rattle.clock.specs.Map.{bit}
 use Rattle.clock.specs.Lists.{_∈_}
 use Rattle.layout.specs.State.{table, stateOf, lastClock}
 use Rattle.layout.specs.Ranges.{Bytes}
@@ -53,6 +55,11 @@ pub record OfTable (t : List ℕ) (W : World) : Type 1 where
       (W .applied s (a .site) < a .clock) × waiting W s o .depends (a .site) (a .clock)
       × ((o′ c′ : ℕ) → waiting W s o .depends o′ c′ → W .applied s o′ < c′ → a .site ≤ o′)
       × ((c′ : ℕ) → waiting W s o .depends (a .site) c′ → c′ ≤ a .clock)
+  -- and the value has the bit of every site of which a cause is missing, and no other bit
+  pub waits : (s o : ℕ) → let a = serve t (Deliver s o) .answer in a .code ≡ 10
+      → ((m c : ℕ) → waiting W s o .depends m c → W .applied s m < c → bit (a .value) m ≡ true)
+      × ((m : ℕ) → ((c : ℕ) → waiting W s o .depends m c → c ≤ W .applied s m) → bit (a .value) m ≡ false)
+      × (a .value < 256)
 
 -- demand 3: a table after any calls, and their history
 pub record OfHistory (t : List ℕ) (h : History) : Type 1 where

@@ -1,5 +1,6 @@
 pub mod Maps
 pub mod Says
 pub mod Below
+pub mod Bits
 pub mod Cells
 pub mod Compares

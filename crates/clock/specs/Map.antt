@@ -1,6 +1,6 @@
--- Choosing by a test, maps with one place changed, and tests of every number below a bound. Assumes nothing.
+-- Choosing by a test, maps with one place changed, tests of every number below a bound, and masks of those that pass. Assumes nothing.
 use mathlib.Core.Bool.{Bool, true, false, _&&_, _||_}
-use Prim.Native.Nat.{ℕ, zero, suc}
+use Prim.Native.Nat.{ℕ, zero, suc, _+_, _/_, _%_, _^_}
 use lib.Dec.{eqb, ltb}
 
 infix 20 if_then_else_
@@ -35,3 +35,13 @@ any (suc m) p = any m p || p m
 unfoldable pub least : ℕ → (ℕ → Bool) → ℕ
 least zero p = 0
 least (suc m) p = if any m p then least m p else if p m then m else suc m
+
+-- the sum of 2 to the power j over the numbers j below m at which a test passes
+unfoldable pub mask : ℕ → (ℕ → Bool) → ℕ
+mask zero p = 0
+mask (suc m) p = mask m p + (if p m then 2 ^ m else 0)
+
+-- whether the bit of b that is worth 2 to the power j is set
+unfoldable pub bit : ℕ → ℕ → Bool
+bit b zero = eqb (b % 2) 1
+bit b (suc j) = bit (b / 2) j

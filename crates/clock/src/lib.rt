@@ -8,10 +8,15 @@ pub struct Clock {
     pub col: [u16; 8],
 }
 
-// Whether a vector is within another in every column, else its lowest column that is beyond, with its number.
+// Whether a vector is within another in every column, else its lowest column that is beyond, with its number,
+// and the mask of all columns that are.
 pub enum Compared {
     Within,
-    Beyond { column: usize, number: u16 },
+    Beyond {
+        column: usize,
+        number: u16,
+        mask: u8,
+    },
 }
 
 pub fn greater(a: u16, b: u16) -> u16
@@ -52,23 +57,33 @@ impl Clock {
         Clock { col: a }
     }
 
+    // Down the columns, so that the last one found is the lowest; the mask doubles at each.
     pub fn compare(self, other: Clock) -> Compared
         ensures { λ r. ⌜ r ≡ compare (columns self) (columns other) ⌝ }
     {
         let a = self.col;
         let b = other.col;
-        let mut i = 0;
-        while i < Clock::COLUMNS {
+        let mut mask: u16 = 0;
+        let mut column = 0;
+        let mut number: u16 = 0;
+        let mut i = Clock::COLUMNS;
+        while 0 < i {
+            i -= 1;
+            mask += mask;
             let x = a[i];
-            let y = b[i];
-            if y < x {
-                return Compared::Beyond {
-                    column: i,
-                    number: x,
-                };
+            if b[i] < x {
+                mask += 1;
+                column = i;
+                number = x;
             }
-            i += 1;
         }
-        Compared::Within
+        if mask == 0 {
+            return Compared::Within;
+        }
+        Compared::Beyond {
+            column: column,
+            number: number,
+            mask: mask as u8,
+        }
     }
 }

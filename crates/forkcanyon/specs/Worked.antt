@@ -18,3 +18,7 @@ put = refl
 -- "For drain, deliveries stand in the clock's place and tries in the value's": case 14's 11, with 2 deliveries and 5 tries
 pub spent : replyOf (record { code = 11; key = 0; site = 0; clock = 2; value = 5 }) ≡ 11 ∷ 0 ∷ 0 ∷ 0 ∷ 0 ∷ 2 ∷ 0 ∷ 0 ∷ 0 ∷ 0 ∷ 0 ∷ 5 ∷ []
 spent = refl
+
+-- beside 10 the mask stands in the value's place: for the sites 0, 1 and 7, of which 0 lacks clock 0x0102
+pub waits : replyOf (record { code = 10; key = 0; site = 0; clock = 0x0102; value = 131 }) ≡ 10 ∷ 0 ∷ 0 ∷ 0 ∷ 1 ∷ 2 ∷ 0 ∷ 0 ∷ 0 ∷ 0 ∷ 0 ∷ 131 ∷ []
+waits = refl

@@ -6,6 +6,7 @@ use native.Mathlib.Omega.{arith}
 use borrow.Author.Tests.{ne-eqb}
 use Rattle.clock.proofs.Maps.{le?}
 use Rattle.clock.proofs.Below.{least-is}
+use Rattle.clock.proofs.Bits.{mask-below, bit-mask}
 use Rattle.layout.specs.State.{State}
 use Rattle.rules.specs.Steps.{Outcome, refused, put, get, deliver, touch, cold}
 use Rattle.rules.specs.Refusals.{first, missing}
@@ -72,7 +73,15 @@ missing-named S s o q =
     let t = turned-down S (Deliver s o) 10 (omega arith) (omega arith) q in
     let l = least-is (missing S s o) 8 (deliver-ten S s o .0 (t .0) .1 .1 .1 .1) in
     subst (λ (r : Outcome). LowestMissing S s o (r .answer)) (sym (t .1))
-    (record { column = l .0; fails = l .1; lowest = l .2; clock = refl; others = (refl, refl) })
+    (record {
+      column = l .0;
+      fails = l .1;
+      lowest = l .2;
+      clock = refl;
+      bits = bit-mask (missing S s o) 8;
+      below = mask-below (missing S s o) 8;
+      others = refl;
+    })
 
 -- ## The budget
 

@@ -5,6 +5,7 @@ use mathlib.Core.List.{List, [], _∷_, _++_}
 use mathlib.Core.Logic.{_⊎_, _≢_, _↔_}
 use Prim.Native.Nat.{ℕ, zero, suc, _+_, _*_, _-_, _≤_, _<_}
 use lib.ListN.{length}
+use Rattle.clock.specs.Map.{bit}
 use Rattle.layout.specs.State.{State}
 use Rattle.rules.specs.Sound.{sound, Sound}
 use Rattle.rules.specs.Steps.{Numbers, refused, waiting}
@@ -98,13 +99,16 @@ SpentExactly = (S : State) (c : Call) → (run S c .answer .code ≡ 11) ↔ (Cl
 abbrev pub RefusedZeros : Type 0
 RefusedZeros = (S : State) (c : Call) (e : ℕ) → e ≢ 0 → e ≢ 10 → e ≢ 11 → run S c .answer .code ≡ e → run S c .answer ≡ refused e
 
--- 10: "site and clock name the lowest failing column and its number in the update's vector"
+-- 10: "site and clock name the lowest failing column and its number in the update's vector";
+-- the value names all: its bits are those of the failing columns, and none is above the eight
 pub record LowestMissing (S : State) (s o : ℕ) (a : Numbers) : Type 0 where
   pub column : a .site < 8
   pub fails : missing S s o (a .site) ≡ true
   pub lowest : (j : ℕ) → j < a .site → missing S s o j ≡ false
   pub clock : a .clock ≡ waiting S s o .depends (a .site)
-  pub others : (a .key ≡ 0) × (a .value ≡ 0)
+  pub bits : (m : ℕ) → m < 8 → bit (a .value) m ≡ missing S s o m
+  pub below : a .value < 256
+  pub others : a .key ≡ 0
 
 abbrev pub MissingNamed : Type 0
 MissingNamed = (S : State) (s o : ℕ) → run S (Deliver s o) .answer .code ≡ 10 → LowestMissing S s o (run S (Deliver s o) .answer)

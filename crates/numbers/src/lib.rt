@@ -53,12 +53,12 @@ pub fn numbers_of(a: Answer) -> Five
             clock: clock,
             value: value,
         },
-        Answer::Missing { site, clock } => Five {
+        Answer::Missing { site, clock, mask } => Five {
             code: 10,
             key: 0,
             site: site,
             clock: clock,
-            value: 0,
+            value: mask as u32,
         },
         Answer::Drained { deliveries, tries } => counted(0, deliveries, tries),
         Answer::Stopped { deliveries, tries } => counted(11, deliveries, tries),

@@ -62,11 +62,19 @@ bounds =
     -- 9 before 10
     ∷ case 9 (waits zeros) (Deliver 1 0 ∷ Deliver 1 0 ∷ []) (done 1 0 4 5 ∷ refused 9 ∷ [])
     ∷ case 9 (withApplied (waits (λ j. 99)) (λ s o. 3)) (Deliver 1 0 ∷ []) (refused 9 ∷ [])
-    -- each of the eight columns, and the lowest is named
+    -- each of the eight columns; the lowest is named with its number, and all of them by the mask
     ∷ case 10 (waits (λ j. 3)) (Deliver 1 0 ∷ []) (done 1 0 4 5 ∷ [])
-    ∷ case 10 (waits (zeros ⟨ 0 ≔ 4 ⟩)) (Deliver 1 0 ∷ []) (ten 0 4 ∷ [])
-    ∷ case 10 (waits (zeros ⟨ 7 ≔ 9 ⟩)) (Deliver 1 0 ∷ []) (ten 7 9 ∷ [])
-    ∷ case 10 (waits (zeros ⟨ 5 ≔ 8 ⟩ ⟨ 3 ≔ 6 ⟩)) (Deliver 1 0 ∷ []) (ten 3 6 ∷ [])
+    ∷ case 10 (waits (zeros ⟨ 0 ≔ 4 ⟩)) (Deliver 1 0 ∷ []) (ten 0 4 1 ∷ [])
+    ∷ case 10 (waits (zeros ⟨ 7 ≔ 9 ⟩)) (Deliver 1 0 ∷ []) (ten 7 9 128 ∷ [])
+    ∷ case 10 (waits (zeros ⟨ 5 ≔ 8 ⟩ ⟨ 3 ≔ 6 ⟩)) (Deliver 1 0 ∷ []) (ten 3 6 40 ∷ [])
+    ∷ case 10 (waits (λ j. 4)) (Deliver 1 0 ∷ []) (ten 0 4 255 ∷ [])
+    ∷ case 10 (waits ((λ j. 3) ⟨ 2 ≔ 4 ⟩)) (Deliver 1 0 ∷ []) (ten 2 4 4 ∷ [])
+    -- 3 has got puts of 0, 1 and 7 when it puts; 4 waits for all three, then not for 1, whose column equals its count, then for 7 alone
+    ∷ case 10 (opened 8 3)
+    (Put 0 0 5 ∷ Put 1 1 6 ∷ Put 7 2 7 ∷ Drain 3 903 ∷ Get 3 0 ∷ Get 3 1 ∷ Get 3 2 ∷ Put 3 0 8
+    ∷ Deliver 4 3 ∷ Deliver 4 1 ∷ Deliver 4 3 ∷ Deliver 4 0 ∷ Deliver 4 3 ∷ Deliver 4 7 ∷ Deliver 4 3 ∷ [])
+    (done 0 0 1 5 ∷ done 1 1 1 6 ∷ done 2 7 1 7 ∷ done 0 0 3 17 ∷ done 0 0 1 5 ∷ done 1 1 1 6 ∷ done 2 7 1 7 ∷ done 0 3 1 8
+    ∷ ten 0 1 131 ∷ done 1 1 1 6 ∷ ten 0 1 129 ∷ done 0 0 1 5 ∷ ten 7 1 128 ∷ done 2 7 1 7 ∷ done 0 3 1 8 ∷ [])
     -- case 14
     ∷ case 11 (opened 3 4) (Put 0 1 7 ∷ Deliver 1 0 ∷ Get 1 1 ∷ Put 1 2 9 ∷ Drain 2 5 ∷ []) (done 1 0 1 7 ∷ done 1 0 1 7 ∷ done 1 0 1 7 ∷ done 2 1 1 9 ∷ spent 2 5 ∷ [])
     ∷ case 11 (opened 3 4) (Put 0 1 7 ∷ Deliver 1 0 ∷ Get 1 1 ∷ Put 1 2 9 ∷ Drain 2 6 ∷ []) (done 1 0 1 7 ∷ done 1 0 1 7 ∷ done 1 0 1 7 ∷ done 2 1 1 9 ∷ done 0 0 2 6 ∷ [])
@@ -88,7 +96,7 @@ bounds =
 pub at-bounds : Computed bounds
 unfolding rules bounds
 at-bounds =
-    (refl, (refl, (refl, (refl, (refl, (refl, (refl, (refl, (refl, (refl, (refl, (refl, (refl, (refl, (refl, (refl, (refl, (refl, (refl, (refl, (refl, (refl, (refl, tt)))))))))))))))))))))))
+    (refl, (refl, (refl, (refl, (refl, (refl, (refl, (refl, (refl, (refl, (refl, (refl, (refl, (refl, (refl, (refl, (refl, (refl, (refl, (refl, (refl, (refl, (refl, (refl, (refl, (refl, tt))))))))))))))))))))))))))
 
 -- document 02's places in the order: 14 before 1, 16 and 17 after 5, 19, 15 and 13 after 6, 18 between 7 and 8; no code twice, and no other
 in-order :

@@ -3,7 +3,7 @@ use mathlib.Core.Path.{_≡_, refl}
 use mathlib.Core.List.{List, [], _∷_, _++_}
 use Prim.Native.Nat.{ℕ}
 use lib.Dec.{eqb}
-use Rattle.clock.specs.Map.{if_then_else_, all, any, least}
+use Rattle.clock.specs.Map.{if_then_else_, all, any, least, mask}
 use lib.ListN.{replicate}
 use Rattle.layout.specs.State.{State, bytesOf}
 use Rattle.rules.specs.Sound.{sound, header, counted, blank, written, smallest, lowest, holds, retains}
@@ -15,7 +15,7 @@ use Rattle.rules.specs.Calls.{Call, Put, Get, Deliver, Drain, refusals, 
 
 -- opens every rule, for what is computed
 unfoldable pub rules : ℕ
-unfolding all any least sound header counted blank written smallest lowest holds retains opened put learn get deliver open-refusals full put-refusals get-refusals deliver-refusals site-refusals touch-refusals try passes drained drain kind chosen coldList touch learnAll cold refusals beside step run
+unfolding all any least mask sound header counted blank written smallest lowest holds retains opened put learn get deliver open-refusals full put-refusals get-refusals deliver-refusals site-refusals touch-refusals try passes drained drain kind chosen coldList touch learnAll cold refusals beside step run
 rules = 0
 
 -- calls on a freshly opened table, their answers, and what is seen of the table before and after the last call
@@ -58,8 +58,8 @@ fives =
     done 0 0 1 5 ∷ done 0 0 2 5 ∷ done 0 0 3 5 ∷ done 0 0 4 5 ∷ done 0 0 5 5 ∷ done 0 0 6 5 ∷ done 0 0 7 5 ∷ done 0 0 8 5
     ∷ done 0 0 9 5 ∷ done 0 0 10 5 ∷ done 0 0 11 5 ∷ done 0 0 12 5 ∷ done 0 0 13 5 ∷ done 0 0 14 5 ∷ done 0 0 15 5 ∷ done 0 0 16 5 ∷ []
 
-abbrev pub ten : (site clock : ℕ) → Numbers
-ten j c = record { code = 10; key = 0; site = j; clock = c; value = 0 }
+abbrev pub ten : (site clock mask : ℕ) → Numbers
+ten j c b = record { code = 10; key = 0; site = j; clock = c; value = b }
 
 abbrev pub spent : (deliveries tries : ℕ) → Numbers
 spent d t = record { code = 11; key = 0; site = 0; clock = d; value = t }
@@ -78,13 +78,13 @@ cases =
     ∷ case-of 10 (opened 2 2) (Put 0 0 5 ∷ Get 0 0 ∷ []) (done 0 0 1 5 ∷ done 0 0 1 5 ∷ []) unchanged (1 ∷ [])
     ∷ case 11 (opened 3 2) (Put 0 0 7 ∷ Deliver 1 0 ∷ Put 1 1 9 ∷ Deliver 2 1 ∷ []) (done 0 0 1 7 ∷ done 0 0 1 7 ∷ done 1 1 1 9 ∷ done 1 1 1 9 ∷ [])
     ∷ case 12 (opened 3 2) (Put 0 0 7 ∷ Deliver 1 0 ∷ Get 1 0 ∷ Put 1 1 9 ∷ Deliver 2 1 ∷ [])
-    (done 0 0 1 7 ∷ done 0 0 1 7 ∷ done 0 0 1 7 ∷ done 1 1 1 9 ∷ ten 0 1 ∷ [])
+    (done 0 0 1 7 ∷ done 0 0 1 7 ∷ done 0 0 1 7 ∷ done 1 1 1 9 ∷ ten 0 1 1 ∷ [])
     ∷ case-of 13 (opened 2 2) (Put 0 0 5 ∷ Put 1 0 6 ∷ Deliver 0 1 ∷ Deliver 1 0 ∷ []) (done 0 0 1 5 ∷ done 0 1 1 6 ∷ done 0 1 1 6 ∷ done 0 0 1 5 ∷ [])
     (λ S T. T .store 0 0 .value ∷ T .store 1 0 .value ∷ []) (6 ∷ 5 ∷ [])
     ∷ case 15 (opened 1 2) (Drain 0 0 ∷ []) (done 0 0 0 0 ∷ [])
     ∷ case 15 (opened 2 2) (Drain 0 0 ∷ Drain 0 1 ∷ []) (spent 0 0 ∷ done 0 0 0 1 ∷ [])
     ∷ case 0 (opened 3 4) (Put 0 1 7 ∷ Deliver 1 0 ∷ Get 1 1 ∷ Put 1 2 9 ∷ Deliver 2 1 ∷ Drain 2 903 ∷ Get 2 1 ∷ [])
-    (done 1 0 1 7 ∷ done 1 0 1 7 ∷ done 1 0 1 7 ∷ done 2 1 1 9 ∷ ten 0 1 ∷ done 0 0 2 6 ∷ done 1 0 1 7 ∷ [])
+    (done 1 0 1 7 ∷ done 1 0 1 7 ∷ done 1 0 1 7 ∷ done 2 1 1 9 ∷ ten 0 1 1 ∷ done 0 0 2 6 ∷ done 1 0 1 7 ∷ [])
     ∷ []
 
 abbrev pub computed : Case → List Numbers × List ℕ

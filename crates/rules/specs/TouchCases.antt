@@ -69,7 +69,7 @@ touches =
     (λ S T. row S 0 ++ row T 0) (16 ∷ 0 ∷ 16 ∷ 0 ∷ [])
     -- a touch depends on what it got: 2 waits for 0's put
     ∷ case 10 (opened 3 4) (Put 0 0 (touchOf 7 0 0) ∷ Deliver 1 0 ∷ Touch 1 0 9 1 2 ∷ Deliver 2 1 ∷ [])
-    (done 0 0 1 (touchOf 7 0 0) ∷ done 0 0 1 (touchOf 7 0 0) ∷ done 0 1 1 (touchOf 7 1 2) ∷ record { code = 10; key = 0; site = 0; clock = 1; value = 0 } ∷ [])
+    (done 0 0 1 (touchOf 7 0 0) ∷ done 0 0 1 (touchOf 7 0 0) ∷ done 0 1 1 (touchOf 7 1 2) ∷ record { code = 10; key = 0; site = 0; clock = 1; value = 1 } ∷ [])
     -- the threshold's own hour is cold, one more is not
     ∷ case 0 (opened 2 4) (some-puts ++ (Cold 0 150 50 64 ∷ Cold 0 150 51 64 ∷ Cold 1 150 1 64 ∷ [])) (put-so ++ (done 1 1 1 0 ∷ done 0 1 1 0 ∷ done 0 0 0 0 ∷ []))
     -- 14 before all, at its bounds

@@ -24,7 +24,7 @@ unfolded : ℕ
 unfolding rules stepOf callOf unused-zero played digits decimal line end-line cut-line last-line listed after-open listing
 unfolded = 0
 
-document : listing input ≡ text "0 0 0 0 0 0\n1 0 1 0 1 7\n2 0 1 0 1 7\n3 0 1 0 1 7\n4 0 2 1 1 9\n5 10 0 0 1 0\n6 0 0 0 2 6\n7 0 1 0 1 7\nend 7\n"
+document : listing input ≡ text "0 0 0 0 0 0\n1 0 1 0 1 7\n2 0 1 0 1 7\n3 0 1 0 1 7\n4 0 2 1 1 9\n5 10 0 0 1 1\n6 0 0 0 2 6\n7 0 1 0 1 7\nend 7\n"
 unfolding unfolded input
 document = refl
 

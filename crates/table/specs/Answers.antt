@@ -25,7 +25,7 @@ codeOf OutOfRange = 14
 
 abbrev pub numbersOf : Answer → Numbers
 numbersOf (Done x s c v) = done x s c v
-numbersOf (Missing j c) = record { code = 10; key = 0; site = j; clock = c; value = 0 }
+numbersOf (Missing j c b) = record { code = 10; key = 0; site = j; clock = c; value = b }
 numbersOf (Drained d t) = record { code = 0; key = 0; site = 0; clock = d; value = t }
 numbersOf (Stopped d t) = record { code = 11; key = 0; site = 0; clock = d; value = t }
 numbersOf (Refused r) = refused (codeOf r)

@@ -42,6 +42,7 @@ pub enum Answer {
     Missing {
         site: u8,
         clock: u16,
+        mask: u8,
     },
     Drained {
         deliveries: u16,
@@ -84,7 +85,11 @@ pub fn code(a: Answer) -> u8
             clock: _,
             value: _,
         } => 0,
-        Answer::Missing { site: _, clock: _ } => 10,
+        Answer::Missing {
+            site: _,
+            clock: _,
+            mask: _,
+        } => 10,
         Answer::Drained {
             deliveries: _,
             tries: _,
@@ -355,9 +360,14 @@ pub fn attempt(t: &mut [u8], s: usize, o: usize) -> Answer
                 value: u.value,
             }
         }
-        Compared::Beyond { column, number } => Answer::Missing {
+        Compared::Beyond {
+            column,
+            number,
+            mask,
+        } => Answer::Missing {
             site: column as u8,
             clock: number,
+            mask: mask,
         },
     }
 }

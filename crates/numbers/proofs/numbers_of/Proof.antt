@@ -29,6 +29,7 @@ numbers-of-spec =
     (tie.spec
     (λ c. search needs)  -- enum-known-a
     (λ c. search needs)  -- enum-known-a-2
+    (λ c. search needs)  -- cast-t14
     (λ c. search needs)  -- enum-known-a-3
     (λ c κs. search needs)  -- counted-requires
     (λ c. search needs)  -- enum-known-a-4

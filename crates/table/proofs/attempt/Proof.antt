@@ -32,12 +32,12 @@ deliver-step-requires c κs =
     deliver-fits (a .t .now) (a .s) (a .o) (start .pre) (differ here (if1 .before .applied-at2 .ensures) (if1 .if1 .left)) (u .update-at .result) _ (u .update-at .ensures)
     (u .before .wide .ensures .0 ∙ here) _ (c .before .after .ensures ∙ ap (λ m. m + 1) here)
 
-cast-t34 : tie.Need-cast-t34
-cast-t34 c = let h = c .before .before .before .before .before .before .before .before .before .before .before .before .before .before .before .before .before .before .before .before .before .pre in omega (arith, h .origin, h .sound .sites)
-
 cast-t35 : tie.Need-cast-t35
-cast-t35 c =
-    let b = found-beyond _ _ _ _ (sym (c .before .before .before .compare .ensures) ∙ c .before .miss .given .1) in
+cast-t35 c = let h = c .before .before .before .before .before .before .before .before .before .before .before .before .before .before .before .before .before .before .before .before .before .pre in omega (arith, h .origin, h .sound .sites)
+
+cast-t36 : tie.Need-cast-t36
+cast-t36 c =
+    let b = found-beyond _ _ _ _ _ (sym (c .before .before .before .compare .ensures) ∙ c .before .miss .given .1) in
     omega (arith, b .1, least-is _ 8 (b .0) .0)
 
 returns : tie.Need-returns
@@ -84,9 +84,9 @@ returns-3 c =
     let behind = differ here (if1 .before .applied-at2 .ensures) (if1 .if1 .left) in
     let row = row-read (a .s) (S .applied) (m .before .before .applied .ensures) in
     let e = compared (a .t .now) (a .s) (a .o) h behind (u .update-at .result) _ (u .update-at .ensures) (u .before .wide .ensures .0 ∙ here) _ row _ (m .compare .ensures) ∙ c .before .miss .given .1 in
-    let b = found-beyond _ _ _ _ e in
+    let b = found-beyond _ _ _ _ _ e in
     let r = try-ten S (a .s) (a .o) (h .sound) (h .site) (h .origin) (h .others) behind (b .0) in (
-      (λ i. record { code = 10; key = 0; site = b .1 i; clock = b .2 i; value = 0 }) ∙ sym (ap (λ (w : Outcome). w .answer) r),
+      (λ i. record { code = 10; key = 0; site = b .1 i; clock = b .2 i; value = b .3 i }) ∙ sym (ap (λ (w : Outcome). w .answer) r),
       sym (ap (λ (w : Outcome). w .after) r),
     )
 
@@ -108,9 +108,9 @@ attempt-spec =
     (λ c. search needs)  -- enum-told
     after-requires
     deliver-step-requires
-    cast-t34
-    (λ c. search needs)  -- enum-known-miss
     cast-t35
+    (λ c. search needs)  -- enum-known-miss
+    cast-t36
     (λ c. search needs)  -- same-length-2
     returns-2
     (λ c. search needs)  -- same-length-3
