@@ -1,6 +1,8 @@
-"""What a file of laws or of code declares, by name, with its text freed of comments and spacing."""
+"""What a file of laws or of code declares, by name, with its text freed of comments and spacing; and how a test says what it finds wrong there."""
 
 import re
+import sys
+from pathlib import Path
 
 DECLARED = re.compile(r"(?:(?:abbrev|unfoldable|opaque|private|pub)\s+)*([^\s:=(){}]+)\s*:(?:\s|$)")
 TYPE = re.compile(r"(?:pub\s+)?(?:record|data)\s+(\S+)")
@@ -160,3 +162,11 @@ def promises(text):
         if clauses:
             found.declare(name, " ".join([f"fn {name.split('::')[-1]}{taken}", *(text for _, text in clauses)]))
     return dict(found)
+
+
+def report(name, faults, fine):
+    """Says what faults(ROOT) finds, a line each, and fails; ROOT is the command's first word, or this repository."""
+    found = list(faults(Path(sys.argv[1]) if len(sys.argv) > 1 else Path(__file__).resolve().parents[1]))
+    for each in found or [fine]:
+        print(f"{name}: {each}")
+    raise SystemExit(bool(found))

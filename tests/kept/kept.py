@@ -13,7 +13,7 @@ from pathlib import Path
 
 HERE = Path(__file__).resolve().parents[2]
 sys.path.insert(0, str(HERE / "tools"))
-from declared import laws, uncommented  # noqa: E402
+from declared import laws, report, uncommented  # noqa: E402
 
 NAME = re.compile(r"[^\s(){};,.:]+")
 PATH = re.compile(r"(?:crates|tests|tools|docs|include|examples|bench)/[\w./*+-]*")
@@ -109,14 +109,5 @@ def faults(root):
         yield from kind(root)
 
 
-def main():
-    found = list(faults(Path(sys.argv[1]) if len(sys.argv) > 1 else HERE))
-    for fault in found:
-        print(f"kept: {fault}")
-    if found:
-        raise SystemExit(1)
-    print("kept: every edit, crate, claim and file that is named is there")
-
-
 if __name__ == "__main__":
-    main()
+    report("kept", faults, "every edit, crate, claim and file that is named is there")

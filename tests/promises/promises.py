@@ -16,7 +16,7 @@ from pathlib import Path
 
 HERE = Path(__file__).resolve().parents[2]
 sys.path.insert(0, str(HERE / "tools"))
-from declared import exported, functions, laws, parameters  # noqa: E402
+from declared import exported, functions, laws, parameters, report  # noqa: E402
 
 # Each promise by its file and name, and what puts a call's outcome together for it.
 OUTCOMES = {
@@ -167,15 +167,5 @@ def faults(root):
                 yield from (f"{said}: {each}" for each in function_faults(said, words, taken, clauses, text, proved))
 
 
-def main():
-    root = Path(sys.argv[1]) if len(sys.argv) > 1 else HERE
-    found = list(faults(root))
-    for fault in found:
-        print(f"promises: {fault}")
-    if found:
-        raise SystemExit(1)
-    print("promises: every public function has one")
-
-
 if __name__ == "__main__":
-    main()
+    report("promises", faults, "every public function has one")

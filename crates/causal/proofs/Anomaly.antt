@@ -4,7 +4,7 @@ use mathlib.Core.List.{[], _∷_}
 use mathlib.Core.Logic.{inl, inr, ⊎-elim, _≢_}
 use Prim.Native.Nat.{ℕ}
 use native.Mathlib.Omega.{arith}
-use Rattle.clock.specs.Lists.{_∈_, Before}
+use Rattle.clock.specs.Lists.{Before}
 use Rattle.causal.specs.World.{never, wrote, put, update}
 use Rattle.causal.specs.History.{History, Cause, Write, op, order}
 use Rattle.causal.specs.Anomalies.{NoOrder, forged, prophecy, Anomalies}

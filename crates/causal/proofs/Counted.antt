@@ -1,5 +1,5 @@
 -- The table counts the puts of its history. Assumes nothing.
-use Prim.Native.Nat.{ℕ, _<_}
+use Prim.Native.Nat.{_<_}
 use native.Mathlib.Omega.{arith}
 use Rattle.causal.specs.Refines.{PutsCounted}
 use Rattle.causal.proofs.Invariant.{issued}

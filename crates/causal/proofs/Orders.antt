@@ -3,7 +3,7 @@ use mathlib.Core.Path.{sym, _≡_, refl, subst}
 use mathlib.Core.Logic.{inl, inr}
 use Prim.Native.Nat.{ℕ, _<_}
 use native.Mathlib.Omega.{arith}
-use Rattle.causal.specs.World.{Step, World, nth, due, Event, put, get, update, PUT, GET, UPDATE, Run, begin, more}
+use Rattle.causal.specs.World.{Step, World, nth, due, Event, put, update, PUT, GET, UPDATE, Run, begin, more}
 use Rattle.clock.specs.Lists.{_∈_, Before}
 use Rattle.causal.specs.History.{History, Cause, direct, deeper, Ordered}
 use Rattle.causal.proofs.Sites.{clash, Issued, later-in}

@@ -4,23 +4,22 @@ use mathlib.Core.List.{List, [], _∷_}
 use mathlib.Core.Logic.{inl, inr, ⊎-elim, _≢_}
 use Prim.Native.Nat.{ℕ, suc, _≤_, _<_}
 use native.Mathlib.Omega.{arith}
-use native.Mathlib.Decide.{decLe}
 use lib.ListN.{length}
 use borrow.Author.Tests.{eq-eqb}
-use Rattle.clock.specs.Lists.{_∈_, Before}
+use Rattle.clock.specs.Lists.{_∈_}
 use Rattle.clock.proofs.Maps.{true-or-false}
-use Rattle.layout.specs.State.{State, table, stateOf}
+use Rattle.layout.specs.State.{State, stateOf}
 use Rattle.layout.specs.Ranges.{Bytes}
 use Rattle.rules.specs.Sound.{Sound}
 use Rattle.rules.specs.Steps.{Outcome}
 use Rattle.rules.specs.Refusals.{get-refusals}
-use Rattle.rules.specs.Calls.{Call, Put, Get, Deliver, Drain, refusals, asks, serve}
+use Rattle.rules.specs.Calls.{Call, Get, Deliver, Drain, refusals, asks, serve}
 use Rattle.causal.specs.World.{Answer, wrote, World, due, waiting, withPut, withGet, withUpdate, Event, put, get, update, Step, PUT, GET, UPDATE}
-use Rattle.causal.specs.History.{History, Op, Write, Reads, op, order, Ordered, Cause, Lacks}
-use Rattle.causal.specs.Refines.{Abstracts, Follows, Refines, Steps, numbers, Causal}
+use Rattle.causal.specs.History.{History, Write, Reads, op, order, Ordered, Cause}
+use Rattle.causal.specs.Refines.{Abstracts, Follows, Steps, numbers, Causal}
 use Rattle.causal.proofs.Sites.{clash}
 use Rattle.causal.proofs.Handed.{came, behind, own, arrived, stands, stands-before}
-use Rattle.demands.specs.Demands.{Delivered, none, next, Answered}
+use Rattle.demands.specs.Demands.{Delivered, none, next}
 use Rattle.demands.proofs.Drained.{same-bytes}
 use Rattle.claims.specs.Uses.{OfBuffer, OfTable, OfHistory, Uses}
 use Rattle.claims.proofs.Proved.{claims}

@@ -1,5 +1,5 @@
 -- The promise of a cold list, where it is refused and where its step is taken. Assumes nothing.
-use mathlib.Core.Path.{_≡_, refl, sym, ap, _∙_}
+use mathlib.Core.Path.{_≡_, sym, ap, _∙_}
 use mathlib.Core.List.{List}
 use mathlib.Core.Logic.{_≢_}
 use Prim.Native.Nat.{ℕ}
@@ -7,10 +7,9 @@ use lib.ListN.{length}
 use borrow.Author.Tests.{eq-eqb, ne-eqb}
 use Rattle.layout.specs.State.{stateOf, table}
 use Rattle.layout.specs.Ranges.{Bytes}
-use Rattle.rules.specs.Touch.{coldList}
 use Rattle.rules.specs.Steps.{Numbers, cold}
 use Rattle.rules.specs.Refusals.{first}
-use Rattle.rules.specs.Calls.{Cold, step, asks, Served, serve, Listed, serve-list}
+use Rattle.rules.specs.Calls.{Cold, step, asks, Served, serve, serve-list}
 use Rattle.laws.proofs.Ready.{ColdReady, cold-ready}
 use Rattle.laws.proofs.Serving.{asks-clear}
 use Rattle.table.specs.declared.Refusal.{Refusal}

@@ -1,14 +1,12 @@
 -- One key more in a tally, and a list with one key more. Assumes nothing.
-use mathlib.Core.Path.{_≡_, refl, sym, ap, _∙_}
-use mathlib.Core.Bool.{Bool, true, false}
+use mathlib.Core.Path.{_≡_, sym, ap, _∙_}
+use mathlib.Core.Bool.{true, false}
 use mathlib.Core.List.{List, [], _∷_, _++_, append-nil}
-use Prim.Native.Nat.{ℕ, zero, suc, _+_, _-_, _≤_, _<_}
+use Prim.Native.Nat.{ℕ, suc, _+_, _-_, _≤_, _<_}
 use native.Mathlib.Omega.{arith}
 use lib.ListN.{length, set, getD, replicate, length-append, length-replicate, getD-replicate}
 use lib.Seq.{set-append-seam, append-snoc, ext-getD}
-use Rattle.clock.specs.Map.{if_then_else_}
-use Rattle.clock.proofs.Maps.{choice}
-use Rattle.rules.specs.Touch.{Kind, never, malformed, fresh, cold, ahead, is, chosen, padded}
+use Rattle.rules.specs.Touch.{Kind, malformed, cold, ahead, is, chosen, padded}
 use Rattle.laws.proofs.Records.{chosen-short}
 use Rattle.cold.specs.declared.Counts.{Counts}
 use Rattle.cold.specs.Tally.{those, Tally, Small}

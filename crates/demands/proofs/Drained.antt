@@ -1,21 +1,19 @@
 -- A drain is its deliveries, over bytes. Assumes nothing.
-use mathlib.Core.Path.{_≡_, refl, sym, ap, subst, _∙_}
-use mathlib.Core.List.{List, [], _∷_}
-use mathlib.Core.Logic.{⊎-elim}
+use mathlib.Core.Path.{_≡_, refl, ap, subst, _∙_}
+use mathlib.Core.List.{List}
 use Prim.Native.Nat.{ℕ, suc}
 use native.Mathlib.Omega.{arith}
 use lib.ListN.{length}
 use Rattle.layout.specs.State.{State, table, stateOf, bytesOf}
 use Rattle.layout.specs.Ranges.{Bytes, Fits}
 use Rattle.layout.proofs.TableTrips.{bytes-back, state-fits}
-use Rattle.rules.specs.Steps.{Numbers, Outcome, refused}
-use Rattle.rules.specs.Drain.{drained, drain}
-use Rattle.rules.specs.Calls.{Deliver, Drain, beside, step, run, Served, serve}
+use Rattle.rules.specs.Steps.{Numbers}
+use Rattle.rules.specs.Drain.{drain}
+use Rattle.rules.specs.Calls.{Deliver, Drain, step, Served}
 use Rattle.laws.specs.Theorems.{Delivers, start, one-more}
-use Rattle.laws.proofs.Given.{run-cases}
 use Rattle.laws.proofs.Draining.{drain-delivers}
 use Rattle.laws.proofs.Fitting.{deliver-sized, run-fits}
-use Rattle.demands.specs.Demands.{Delivered, none, next, Answered, NothingDelivered}
+use Rattle.demands.specs.Demands.{Delivered, none, next, NothingDelivered}
 use Rattle.demands.proofs.Serving.{serve-state}
 
 -- no delivery leaves the bytes

@@ -1,12 +1,11 @@
 -- The three demands hold. Assumes nothing.
 use mathlib.Core.Path.{_≡_, refl, sym, ap, subst, _∙_, fun-ext}
-use mathlib.Core.List.{List, [], _∷_}
-use mathlib.Core.Logic.{⊎-elim, _↔_, _≢_, Iff·trans}
+use mathlib.Core.List.{List, []}
+use mathlib.Core.Logic.{⊎-elim, _≢_, Iff·trans}
 use Prim.Native.Nat.{ℕ}
 use native.Mathlib.Omega.{arith}
-use lib.ListN.{length}
 use Rattle.clock.proofs.Maps.{eq?}
-use Rattle.layout.specs.State.{State, table, stateOf, bytesOf}
+use Rattle.layout.specs.State.{State, stateOf, bytesOf}
 use Rattle.layout.specs.Ranges.{Bytes, Fits}
 use Rattle.layout.proofs.TableTrips.{state-back}
 use Rattle.rules.specs.Steps.{Numbers, Outcome, opened}

@@ -1,6 +1,6 @@
 -- Document 01's schedule meets the hypotheses of demand 3, and its history is the one that a reader would write. Assumes nothing.
 use mathlib.Core.Path.{_≡_, refl, ap, _∙_}
-use mathlib.Core.List.{List, [], _∷_}
+use mathlib.Core.List.{List, []}
 use mathlib.Core.Logic.{inl, inr}
 use Prim.Native.Nat.{ℕ, _^_, _<_}
 use native.Mathlib.Omega.{arith}
@@ -8,10 +8,10 @@ use lib.ListN.{length}
 use Rattle.clock.specs.Lists.{_∈_}
 use Rattle.layout.specs.State.{table, stateOf}
 use Rattle.rules.specs.Steps.{opened}
-use Rattle.rules.specs.Calls.{Call, Open, Put, Get, Deliver, Drain, refusals, step, Served, serve}
+use Rattle.rules.specs.Calls.{Open, Put, refusals, step, Served, serve}
 use Rattle.rules.specs.Cases.{rules}
 use Rattle.laws.proofs.Ready.{open-ready}
-use Rattle.causal.specs.World.{wrote, put, get, update}
+use Rattle.causal.specs.World.{wrote, get}
 use Rattle.causal.specs.History.{History, Cause, direct}
 use Rattle.causal.specs.Refines.{Causal}
 use Rattle.causal.proofs.Tracing.{played}

@@ -10,10 +10,10 @@ use borrow.Author.Tests.{eq-eqb, ne-eqb}
 use Rattle.clock.proofs.Maps.{eq?}
 use Rattle.layout.specs.State.{table, stateOf}
 use Rattle.rules.specs.Refusals.{Refusals, first}
-use Rattle.rules.specs.Calls.{Call, Open, Put, Get, Deliver, Drain, Cold, Touch, words, refusals, asks, Served, serve, serve-list}
+use Rattle.rules.specs.Calls.{Call, Open, Put, Get, Deliver, Drain, Cold, Touch, words, asks, Served, serve, serve-list}
 use Rattle.laws.proofs.Given.{Avoids, words-proper, no-one, beside-code}
 use Rattle.laws.proofs.Codes.{step-code}
-use Rattle.laws.proofs.Serving.{served, asks-long, asks-clear, serve-step, serve-refused, serve-short}
+use Rattle.laws.proofs.Serving.{asks-long, serve-step, serve-refused, serve-short}
 use Rattle.forkcanyon.specs.Host.{replyBytes, Hosted, left, replyOf, unsized, host}
 use Rattle.forkcanyon.specs.Theorems.{WrongReply, WrongTable, SizeExactly, ColdHosts, ListWritten}
 use Rattle.forkcanyon.specs.ColdHost as cold

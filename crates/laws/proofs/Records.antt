@@ -2,10 +2,9 @@
 use mathlib.Core.Path.{_≡_, refl, sym, ap, subst, _∙_}
 use mathlib.Core.Bool.{Bool, true, false}
 use mathlib.Core.List.{List, [], _∷_, _++_}
-use mathlib.Core.Logic.{_⊎_, inl, inr, ⊎-elim, _≢_, _↔_, Iff·trans}
-use Prim.Native.Nat.{ℕ, zero, suc, _+_, _-_, _%_, _^_, _≤_, _<_}
+use mathlib.Core.Logic.{_⊎_, inl, inr, ⊎-elim, _≢_, _↔_}
+use Prim.Native.Nat.{ℕ, zero, suc, _-_, _%_, _^_, _≤_, _<_}
 use native.Mathlib.Omega.{arith}
-use lib.Dec.{eqb, ltb}
 use lib.ListN.{length, getD, replicate, length-append, length-replicate, List·getD-append}
 use lib.Seq.{getD-at}
 use borrow.Author.Tests.{lt-ltb, le-ltb, eq-eqb, ne-eqb, eqb-true}
@@ -13,9 +12,9 @@ use Rattle.clock.specs.Map.{if_then_else_}
 use Rattle.clock.specs.Lists.{_∈_}
 use Rattle.clock.proofs.Maps.{both, choice, true-or-false, eq?, le?}
 use Rattle.clock.proofs.Says.{Says, says-and, says-or, says-lt, says-eq}
-use Rattle.layout.specs.State.{State, Entry}
-use Rattle.rules.specs.Touch.{hourOf, toucherOf, tierOf, touchOf, wellFormed, keepsHour, touched, recorded, age, Kind, never, malformed, fresh, cold, ahead, aged, kind, kindsAt, tag, is, chosen, keysOf, coldList}
-use Rattle.laws.specs.Touches.{TouchBack, FormedExactly, AgeAdds, AgedExactly, KindIs, KindExactly, TouchedSays, Lists, KindsListed, ListFilled}
+use Rattle.layout.specs.State.{Entry}
+use Rattle.rules.specs.Touch.{hourOf, toucherOf, tierOf, touchOf, wellFormed, keepsHour, recorded, age, Kind, never, malformed, fresh, cold, ahead, aged, kind, kindsAt, tag, is, chosen, keysOf, coldList}
+use Rattle.laws.specs.Touches.{TouchBack, FormedExactly, AgeAdds, AgedExactly, KindIs, KindExactly, TouchedSays, KindsListed, ListFilled}
 
 -- ## Bits
 

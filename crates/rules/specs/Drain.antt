@@ -6,7 +6,7 @@ use lib.Dec.{eqb, ltb}
 use lib.ListN.{length}
 use Rattle.clock.specs.Map.{if_then_else_}
 use Rattle.layout.specs.State.{State}
-use Rattle.rules.specs.Steps.{Numbers, Outcome, refused, deliver}
+use Rattle.rules.specs.Steps.{Numbers, Outcome, deliver}
 use Rattle.rules.specs.Refusals.{deliver-refusals, undelivered, unless}
 
 -- one delivery attempted

@@ -2,12 +2,12 @@
 use mathlib.Core.Path.{_≡_, refl}
 use mathlib.Core.List.{List, [], _∷_, _++_, map}
 use Prim.Native.Nat.{ℕ, _+_}
-use lib.ListN.{length, replicate}
+use lib.ListN.{replicate}
 use Rattle.layout.specs.State.{State}
-use Rattle.rules.specs.Touch.{hourOf, toucherOf, tierOf, touchOf, wellFormed, Kind, never, malformed, fresh, cold, ahead, kindOf, kind, tag, coldList}
+use Rattle.rules.specs.Touch.{hourOf, toucherOf, tierOf, touchOf, wellFormed, fresh, cold, ahead, kindOf, tag, coldList}
 use Rattle.rules.specs.Steps.{Numbers, refused, done, opened}
 use Rattle.rules.specs.Refusals.{first}
-use Rattle.rules.specs.Calls.{Call, Put, Deliver, Get, Cold, Touch, asks, run}
+use Rattle.rules.specs.Calls.{Call, Put, Deliver, Cold, Touch, asks, run}
 use Rattle.rules.specs.Cases.{rules, Case, case, case-of, Computed}
 
 -- ## Records and kinds

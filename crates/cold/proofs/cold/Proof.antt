@@ -1,6 +1,5 @@
 use mathlib.Core.Path.{sym, ap, _∙_}
 use native.Mathlib.Omega.{arith}
-use lib.ListN.{length}
 use Rattle.layout.specs.Ranges.{Bytes}
 use Rattle.table.specs.Answers.{codeOf}
 use Rattle.table.proofs.Codes.{refusing}

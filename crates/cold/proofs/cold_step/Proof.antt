@@ -1,6 +1,5 @@
-use mathlib.Core.Path.{_≡_, ap, _∙_}
+use mathlib.Core.Path.{ap, _∙_}
 use native.Mathlib.Omega.{arith}
-use Prim.Native.Nat.{ℕ}
 use Rattle.layout.specs.State.{stateOf}
 use Rattle.rules.specs.Touch.{kindsAt, coldList}
 use Rattle.rules.specs.Steps.{done, learnAll, cold}

@@ -1,9 +1,9 @@
 use mathlib.Core.Path.{_≡_, refl, sym, ap, _∙_}
-use Prim.Native.Nat.{ℕ, _≤_, _-_}
+use Prim.Native.Nat.{_≤_, _-_}
 use native.Mathlib.Omega.{arith}
 use native.Mathlib.Numerals.{add-one}
 use lib.ListN.{length}
-use Rattle.layout.specs.State.{table, stateOf}
+use Rattle.layout.specs.State.{stateOf}
 use Rattle.rules.specs.Touch.{chosen, kind, kindsAt}
 use Rattle.cold.specs.Tally.{Tally}
 use Rattle.cold.proofs.Tallies.{tally-small}

@@ -1,10 +1,9 @@
 use mathlib.Core.Path.{_≡_, sym, ap, _∙_}
 use native.Mathlib.Omega.{arith}
-use Prim.Native.Nat.{ℕ}
 use Rattle.layout.specs.State.{State, Entry, stateOf}
 use Rattle.layout.specs.Ranges.{Bytes}
 use Rattle.rules.specs.Touch.{touched}
-use Rattle.rules.specs.Steps.{done, put, touch, learn}
+use Rattle.rules.specs.Steps.{done, put, touch}
 use Rattle.rules.specs.Calls.{Touch, step}
 use Rattle.table.specs.Answers.{codeOf}
 use Rattle.table.proofs.Codes.{refusing}
