@@ -1,5 +1,7 @@
 #include "calls.h"
 
+#include <stdlib.h>
+
 two_numbers twin_open, twin_get, twin_deliver, twin_drain;
 put_call twin_put;
 five_numbers twin_touch;
@@ -13,7 +15,7 @@ uint32_t make_call(const struct library *library, const struct call *call, const
 {
     const uint64_t *number = call->numbers;
     struct lent table = lent->table, list = lent->list, reply = lent->reply;
-    two_numbers *chosen = library->drain;
+    two_numbers *chosen = NULL;
     switch (call->kind) {
     case PUT:
         return library->put(number[0], number[1], (uint32_t)number[2], table.bytes, table.length, reply.bytes,
@@ -33,8 +35,11 @@ uint32_t make_call(const struct library *library, const struct call *call, const
     case DELIVER:
         chosen = library->deliver;
         break;
-    default:
+    case DRAIN:
+        chosen = library->drain;
         break;
+    case KINDS:
+        abort();
     }
     return chosen(number[0], number[1], table.bytes, table.length, reply.bytes, reply.length);
 }

@@ -1,5 +1,10 @@
-"""The archive exports the source's calls, and needs no heap, no writable global and no symbol of others."""
+"""The archive exports the source's calls, each of them has its depth measured, and the archive needs no heap, no writable
+global and no symbol of others.
 
+usage: symbols.py ARCHIVE DEPTHS
+"""
+
+import re
 import subprocess
 import sys
 from pathlib import Path
@@ -21,7 +26,7 @@ def some(names):
 
 
 def main():
-    archive = sys.argv[1]
+    archive, depths = sys.argv[1:]
     symbols = [line.split()[-2:] for line in lines("nm", archive) if len(line.split()) >= 2]
     undefined = {name for kind, name in symbols if kind in "Uwv"}
     defined = {name for kind, name in symbols if kind not in "Uwv"}
@@ -43,6 +48,9 @@ def main():
     calls = set(exported_calls(ROOT))
     if exported != calls:
         faults.append(f"not exported: {some(calls - exported)}; exported beside: {some(exported - calls)}")
+    measured = set(re.findall(r"^ +(\w+) +\d+$", Path(depths).read_text(), re.M))
+    if measured != calls:
+        faults.append(f"not measured: {some(calls - measured)}; measured beside: {some(measured - calls)}")
     if foreign:
         faults.append(f"needs symbols of others: {some(foreign)}")
     if globals_ or written:

@@ -1,6 +1,6 @@
 -- A loop that counts up and a test of each number below a bound; the least number that passes. Assumes nothing.
 use mathlib.Core.Path.{_≡_, refl}
-use mathlib.Core.Bool.{Bool, true, false, _&&_, _||_}
+use mathlib.Core.Bool.{Bool, true, false, _||_}
 use mathlib.Core.Logic.{⊎-elim, _≢_}
 use Prim.Native.Nat.{ℕ, zero, suc, _+_, _≤_, _<_}
 use native.Mathlib.Numerals.{add-one}
@@ -73,9 +73,3 @@ module _ (p : ℕ → Bool) where
       (λ (k : i ≤ least m p). ⊎-elim (λ z. z) (λ (z : least m p ≢ i). both e (r .2 i (omega arith))) (eq? (least m p) i))
       (λ k. both (r .1) (f (least m p) k))
       (le? i (least m p))
-
-  -- two tests that agree below the bound
-  pub all-same : (q : ℕ → Bool) (m : ℕ) → ((j : ℕ) → j < m → p j ≡ q j) → all m p ≡ all m q
-  unfolding all
-  all-same q zero f = refl
-  all-same q (suc m) f = λ i. all-same q m (λ j h. f j (omega arith)) i && f m (omega arith) i

@@ -18,11 +18,6 @@ unfolding smallest
 smallest-le zero f m i h = absurd (omega arith)
 smallest-le (suc n) f m i h = below-suc (λ j. min (smallest n f m) (f n) ≤ f j) n .0 ((λ j k. omega (arith, smallest-le n f m j k)), omega arith) i h
 
-pub smallest-same : (n : ℕ) (f g : ℕ → ℕ) (m : ℕ) → ((i : ℕ) → i < n → f i ≡ g i) → smallest n f m ≡ smallest n g m
-unfolding smallest
-smallest-same zero f g m h = refl
-smallest-same (suc n) f g m h = λ i. min (smallest-same n f g m (λ j k. h j (omega arith)) i) (h n (omega arith) i)
-
 pub smallest-is : (n : ℕ) (f : ℕ → ℕ) (m : ℕ) → (smallest n f m ≡ m) ⊎ ((i : ℕ) × (i < n) × (smallest n f m ≡ f i))
 unfolding smallest
 smallest-is zero f m = inl refl

@@ -1,5 +1,5 @@
 -- The places of the table as fields of the state. Assumes nothing.
-use mathlib.Core.Path.{_≡_, refl, ap, _∙_, fun-ext}
+use mathlib.Core.Path.{_≡_, refl, sym, ap, _∙_, fun-ext}
 use mathlib.Core.List.{List, _++_}
 use lib.ListN.{length, getD, take, drop, replicate}
 use Prim.Native.Nat.{ℕ, zero, suc, _+_, _*_, _-_, _≤_, _<_}
@@ -8,9 +8,9 @@ use Rattle.clock.specs.Map.{_⟨_≔_⟩, _⟨_⟩⟨_≔_⟩, upTo}
 use Rattle.clock.proofs.Cells.{cells-zeros, upTo-below, upTo-from}
 use Rattle.clock.specs.Vector.{Vector, zeros}
 use Rattle.layout.specs.Codec.{Codec, _then_, row}
-use Rattle.layout.specs.State.{Fields, Entry, Update, Parts, byte, value, clock, vector, fields, square, entry, update, toState, ofState, table, appliedAt, dependsAt, storeAt, updatesAt, withApplied, withDepends, withStore, withUpdates, toEntry, toUpdate, stateOf}
-use Rattle.layout.specs.Records.{fieldsAt, cells2, rows}
-use Rattle.layout.proofs.Splice.{part, getD-part}
+use Rattle.layout.specs.State.{Fields, Entry, Update, Parts, byte, value, clock, vector, fields, square, entry, update, toState, ofState, table, appliedAt, dependsAt, withApplied, withDepends, withStore, withUpdates, toEntry, toUpdate, stateOf}
+use Rattle.layout.specs.Records.{fieldsAt, cells2, rows, appliedPlace, dependsPlace, entryPlace, updatePlace}
+use Rattle.layout.proofs.Splice.{part}
 use Rattle.layout.proofs.Fields.{Field, at-place, inner, first, second, element, clothed, read-part, write-part, read-byte}
 
 abbrev updates : Codec (ℕ → ℕ → Update)
@@ -62,11 +62,11 @@ pub depends-square : Field table square dependsAt (λ S. S .depends) withDepends
 depends-square = in-table (inner behind (inner (second square depends) (first square store)))
 
 pub applied-number : (s o : ℕ) → s < 8 → o < 8
-    → Field table clock (appliedAt + (s * 8 + o) * clock .width) (λ S. S .applied s o) (λ S c. withApplied S (S .applied ⟨ s ⟩⟨ o ≔ c ⟩))
+    → Field table clock (appliedPlace s o) (λ S. S .applied s o) (λ S c. withApplied S (S .applied ⟨ s ⟩⟨ o ≔ c ⟩))
 applied-number s o hs ho = at-place (omega arith) (inner applied-square (inner (element vector 8 s hs) (element clock 8 o ho)))
 
 pub depends-number : (s o : ℕ) → s < 8 → o < 8
-    → Field table clock (dependsAt + (s * 8 + o) * clock .width) (λ S. S .depends s o) (λ S c. withDepends S (S .depends ⟨ s ⟩⟨ o ≔ c ⟩))
+    → Field table clock (dependsPlace s o) (λ S. S .depends s o) (λ S c. withDepends S (S .depends ⟨ s ⟩⟨ o ≔ c ⟩))
 depends-number s o hs ho = at-place (omega arith) (inner depends-square (inner (element vector 8 s hs) (element clock 8 o ho)))
 
 pub depends-row : (s : ℕ) → s < 8 → Field table vector (dependsAt + s * vector .width) (λ S. S .depends s) (λ S v. withDepends S (S .depends ⟨ s ≔ v ⟩))
@@ -74,14 +74,14 @@ depends-row s hs = inner depends-square (element vector 8 s hs)
 
 -- the entry of key x at site s, and the update at place p of origin o
 pub entry-place : (s x : ℕ) → s < 8 → x < 64
-    → Field table entry (storeAt + (s * 64 + x) * entry .width) (λ S. S .store s x) (λ S e. withStore S (S .store ⟨ s ⟩⟨ x ≔ e ⟩))
+    → Field table entry (entryPlace s x) (λ S. S .store s x) (λ S e. withStore S (S .store ⟨ s ⟩⟨ x ≔ e ⟩))
 entry-place s x hs hx =
     at-place (omega arith)
     (inner (in-table (inner behind (inner (second square depends) (inner (second square store) (first (row 8 (row 64 entry)) updates)))))
     (inner (element (row 64 entry) 8 s hs) (element entry 64 x hx)))
 
 pub update-place : (o p : ℕ) → o < 8 → p < 16
-    → Field table update (updatesAt + (o * 16 + p) * update .width) (λ S. S .updates o p) (λ S u. withUpdates S (S .updates ⟨ o ⟩⟨ p ≔ u ⟩))
+    → Field table update (updatePlace o p) (λ S. S .updates o p) (λ S u. withUpdates S (S .updates ⟨ o ⟩⟨ p ≔ u ⟩))
 update-place o p ho hp =
     at-place (omega arith)
     (inner (in-table (inner behind (inner (second square depends) (inner (second square store) (second (row 8 (row 64 entry)) updates)))))
@@ -180,18 +180,14 @@ row-read s f e = (λ i. e i s) ∙ rows-at s (s + 1) s f (omega arith) (omega ar
 pub clock-read : (l : List ℕ) → clock .dec (part l clockAt (clock .width)) ≡ fieldsAt l .1 .1 .1 .0
 clock-read l = ap (λ (p : Fields). p .1 .1 .1 .0) (fields-read l)
 
-pub clock-bytes : (l : List ℕ) → getD l clockAt 0 * 256 + getD l (clockAt + 1) 0 ≡ fieldsAt l .1 .1 .1 .0
-clock-bytes l = omega (arith, clock-read l, getD-part l clockAt (clock .width) 0 (omega arith), getD-part l clockAt (clock .width) 1 (omega arith))
-
 pub tag-read : (l : List ℕ) → getD l tagAt 0 ≡ fieldsAt l .1 .0
 tag-read l = ap (λ (p : Fields). p .1 .0) (fields-read l)
 
 -- an entry and an update, read in their places as code does
-pub entry-read : (t : List ℕ) (s x : ℕ) → s < 8 → x < 64 → let at = storeAt + (s * 64 + x) * entry .width in toEntry (fieldsAt (part t at (at + entry .width - at))) ≡ stateOf t .store s x
+pub entry-read : (t : List ℕ) (s x : ℕ) {at : ℕ} → s < 8 → x < 64 → at ≡ entryPlace s x → toEntry (fieldsAt (part t at (at + entry .width - at))) ≡ stateOf t .store s x
 unfolding fieldsAt stateOf
-entry-read t s x hs hx = read-part (entry-place s x hs hx) t
+entry-read t s x hs hx e = read-part (at-place (sym e) (entry-place s x hs hx)) t
 
-pub update-read : (t : List ℕ) (o p : ℕ) → o < 8 → p < 16
-    → let at = updatesAt + (o * 16 + p) * update .width in toUpdate (fieldsAt (part t at (at + update .width - at))) ≡ stateOf t .updates o p
+pub update-read : (t : List ℕ) (o p : ℕ) {at : ℕ} → o < 8 → p < 16 → at ≡ updatePlace o p → toUpdate (fieldsAt (part t at (at + update .width - at))) ≡ stateOf t .updates o p
 unfolding fieldsAt stateOf
-update-read t o p ho hp = read-part (update-place o p ho hp) t
+update-read t o p ho hp e = read-part (at-place (sym e) (update-place o p ho hp)) t

@@ -28,9 +28,6 @@ bytes-drop : (n : ℕ) (l : List ℕ) → Bytes l → Bytes (drop n l)
 unfolding Bytes
 bytes-drop n l h i = rw (getD-drop n l i 0) (h (n + i))
 
-pub bytes-part : (l : List ℕ) (o w : ℕ) → Bytes l → Bytes (take w (drop o l))
-bytes-part l o w h = bytes-take w (drop o l) (bytes-drop o l h)
-
 pub record Lawful {A : Type 0} (c : Codec A) (ok : A → Type 0) : Type 0 where
   pub long : (a : A) → ok a → length (c .enc a) ≡ c .width
   pub back : (a : A) → ok a → c .dec (c .enc a) ≡ a

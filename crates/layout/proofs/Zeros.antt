@@ -2,22 +2,22 @@
 use mathlib.Core.Path.{_≡_, refl, sym, ap, _∙_, fun-ext}
 use mathlib.Core.List.{List, [], _∷_, _++_}
 use mathlib.Core.Bool.{true, false}
-use mathlib.Core.Logic.{⊎-elim}
-use Prim.Native.Nat.{ℕ, zero, suc, _+_, _*_, _≤_, _<_}
+use mathlib.Core.Logic.{⊎-elim, _↔_}
+use Prim.Native.Nat.{ℕ, zero, suc, _+_, _*_, _-_, _≤_, _<_}
 use native.Mathlib.Omega.{arith}
 use lib.Dec.{ltb}
 use lib.ListN.{length, getD, take, drop, replicate, List·getD-eq-default}
 use borrow.Author.Tests.{ltb-true, ltb-false}
 use Rattle.clock.proofs.Maps.{true-or-false}
 use Rattle.clock.proofs.Says.{below-suc}
-use lib.Seq.{getD-drop}
+use lib.Seq.{getD-take, getD-drop}
 use Rattle.clock.specs.Vector.{Vector, zeros}
 use Rattle.clock.proofs.Cells.{cells-zeros}
 use Rattle.layout.specs.Codec.{Codec, digits, inRow, number, _then_, row, via}
 use Rattle.layout.specs.State.{value, clock, fields, vector, toEntry, ofEntry, toUpdate, ofUpdate, toState, ofState, table, allZero, stateOf}
 use Rattle.layout.specs.Ranges.{Bytes, Zeros}
 use Rattle.layout.specs.Records.{fieldsAt}
-use Rattle.layout.proofs.Splice.{part}
+use Rattle.layout.proofs.Splice.{part, getD-part}
 use Rattle.layout.proofs.TableTrips.{fields-lawful}
 
 -- a list that is zero up to its end
@@ -34,6 +34,19 @@ zeros-take (suc n) (x ∷ l) h (suc i) = zeros-take n l (λ j. h (suc j)) i
 pub zeros-part : (l : List ℕ) (o w : ℕ) → Zeros l → Zeros (part l o w)
 zeros-part l o w h = zeros-take w (drop o l) (λ i. getD-drop o l i 0 ∙ h (o + i))
 
+-- bytes that are zero up to m, and w more
+pub zeros-below : (l : List ℕ) (m w : ℕ) → ((j : ℕ) → j < m → getD l j 0 ≡ 0) → Zeros (part l m w) → (j : ℕ) → j < m + w → getD l j 0 ≡ 0
+zeros-below l m w f z j h =
+    ⊎-elim (λ (e : ltb j m ≡ true). f j (ltb-true j m e))
+    (λ (e : ltb j m ≡ false).
+    let b = ltb-false j m e in
+    let i : m + (j - m) ≡ j = omega (arith, b) in
+    ap (λ (i : ℕ). getD l i 0) (sym i) ∙ sym (getD-part l m w (j - m) (omega (arith, b))) ∙ z (j - m))
+    (true-or-false (ltb j m))
+
+pub zeros-more : (l : List ℕ) (m w : ℕ) → length l ≤ m + w → Zeros (take m l) → Zeros (part l m w) → Zeros l
+zeros-more l m w h y z = zeros-long l (m + w) h (zeros-below l m w (λ j k. sym (getD-take m l j 0 k) ∙ y j) z)
+
 -- bytes that are all zero read as z
 record Blank {A : Type 0} (c : Codec A) (z : A) : Type 0 where
   reads : (l : List ℕ) → Zeros l → c .dec l ≡ z
@@ -46,6 +59,10 @@ zero-number (suc w) l h = omega (arith, zero-number w l h, h w)
 pub number-zero : (w : ℕ) (l : List ℕ) → number w .dec l ≡ 0 → (j : ℕ) → j < w → getD l j 0 ≡ 0
 number-zero zero l e j h = absurd (omega arith)
 number-zero (suc w) l e j h = below-suc (λ j. getD l j 0 ≡ 0) w .0 (number-zero w l (omega arith), omega arith) j h
+
+-- so a number says whether its bytes are zero
+pub zeros-are : (w : ℕ) (l : List ℕ) → length l ≤ w → (number w .dec l ≡ 0) ↔ Zeros l
+zeros-are w l h = ((λ e. zeros-long l w h (number-zero w l e)), zero-number w l)
 
 blank-number : (w : ℕ) → Blank (number w) 0
 blank-number w = record { reads = zero-number w }

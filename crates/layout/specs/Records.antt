@@ -1,15 +1,14 @@
 -- What the code's records and squares stand for. Assumes nothing.
 use mathlib.Core.Path.{_≡_}
 use mathlib.Core.List.{List, []}
-use Prim.Native.Nat.{ℕ, _+_}
+use Prim.Native.Nat.{ℕ, _+_, _*_}
 use lib.ListN.{getD}
 use Rattle.clock.specs.Map.{upTo}
 use Rattle.clock.specs.Vector.{Vector, zeros}
 use Rattle.clock.specs.Clock.{cells, columns}
-use Rattle.layout.specs.Codec.{Codec, number}
 use Rattle.layout.specs.declared.Record.{Record}
 use Rattle.layout.specs.declared.Header.{Header}
-use Rattle.layout.specs.State.{State, Entry, Update, Fields, value, square, fields, toEntry, toUpdate, appliedAt}
+use Rattle.layout.specs.State.{State, Entry, Update, Fields, clock, square, fields, entry, update, toEntry, toUpdate, appliedAt, dependsAt, storeAt, updatesAt}
 
 -- a record of the code as its fields, as an entry and as an update
 abbrev pub fieldsOf : Record → Fields
@@ -33,9 +32,29 @@ cells2 a i = cells (getD a i [])
 abbrev pub rows : (from to : ℕ) → (ℕ → Vector) → ℕ → Vector
 rows from to f = upTo to (upTo from (λ i. zeros) f) (λ i. zeros)
 
--- two values at once, where only zero or not matters
-abbrev pub word : Codec ℕ
-word = number (value .width + value .width)
+-- how many bytes are read at once where only zero or not matters
+abbrev pub pair : ℕ
+pair = 2
+
+abbrev pub quad : ℕ
+quad = pair + pair
+
+abbrev pub word : ℕ
+word = quad + quad
+
+-- where the count that site s has applied of o stands, and what s depends on of o
+abbrev pub appliedPlace : (s o : ℕ) → ℕ
+appliedPlace s o = appliedAt + (s * 8 + o) * clock .width
+
+abbrev pub dependsPlace : (s o : ℕ) → ℕ
+dependsPlace s o = dependsAt + (s * 8 + o) * clock .width
+
+-- where the entry of key x at site s stands, and the update at place p of origin o
+abbrev pub entryPlace : (s x : ℕ) → ℕ
+entryPlace s x = storeAt + (s * 64 + x) * entry .width
+
+abbrev pub updatePlace : (o p : ℕ) → ℕ
+updatePlace o p = updatesAt + (o * 16 + p) * update .width
 
 -- a table is cleared by blocks of a square and the four bytes behind it
 abbrev pub block : ℕ

@@ -1,12 +1,13 @@
 // The bytes of the table: numbers, clock vectors, entries and updates, read and written at their places.
 ghost use mathlib.Core.Path.{_≡_};
+ghost use mathlib.Core.Logic.{_↔_};
 ghost use Prim.Native.Nat.{_+_, _*_, _≤_, _<_};
 ghost use lib.ListN.{length};
 ghost use Rattle.clock.specs.Map.{_⟨_≔_⟩, _⟨_⟩⟨_≔_⟩};
 ghost use Rattle.clock.specs.Clock.{columns};
 ghost use Rattle.layout.specs.State.{byte, value, clock, lastClock, vector, square, fields, stateOf, allZero, withCounts, withApplied, withDepends, withStore, withUpdates, table};
 ghost use Rattle.layout.specs.Ranges.{Zeros};
-ghost use Rattle.layout.specs.Records.{word, block, Headed, cells2, rows, fieldsAt, fieldsOf, entryOf, updateOf};
+ghost use Rattle.layout.specs.Records.{pair, quad, word, appliedPlace, dependsPlace, entryPlace, updatePlace, block, Headed, cells2, rows, fieldsAt, fieldsOf, entryOf, updateOf};
 use clock::Clock;
 
 // An entry or an update: tag is the entry's origin or the update's key, zero its zero byte.
@@ -36,16 +37,19 @@ impl Table {
 
     pub const LAST_CLOCK: u16 = 65535;
 
-    // How many bytes a value, a word of two values, a clock, a vector and a square take.
+    // How many bytes a value, a clock, a vector and a square take.
     pub const VALUE: usize = 4;
-
-    pub const WORD: usize = Table::VALUE + Table::VALUE;
 
     pub const CLOCK: usize = 2;
 
     pub const VECTOR: usize = Table::SITES * Table::CLOCK;
 
     pub const SQUARE: usize = Table::SITES * Table::VECTOR;
+
+    // Bytes that are read at once.
+    pub const QUAD: usize = 4;
+
+    pub const WORD: usize = Table::QUAD + Table::QUAD;
 
     // Where the fields of a record stand in it: its value, its tag, its zero byte, its clock, its vector.
     pub const RECORD_VALUE: usize = 0;
@@ -131,12 +135,27 @@ fn read_value(s: &[u8]) -> u32
     value_of(s[0], s[1], s[2], s[3])
 }
 
-pub fn read_word(s: &[u8]) -> u64
-    requires { ⌜ length (now s) ≡ word .width ⌝ }
-    ensures { λ r. ⌜ r ≡ word .dec (now (s .entry)) ⌝ }
+// Two, four and eight bytes at once, where only zero or not matters. The last byte counts most, so that the processors at
+// hand read them in one step.
+pub fn read_pair(s: &[u8]) -> u64
+    requires { ⌜ length (now s) ≡ pair ⌝ }
+    ensures { λ r. ⌜ ((r ≡ 0) ↔ Zeros (now (s .entry))) × (r < 65536) ⌝ }
 {
-    (read_value(&s[0..Table::VALUE]) as u64) * 4294967296
-        + (read_value(&s[Table::VALUE..Table::WORD]) as u64)
+    clock_of(s[1], s[0]) as u64
+}
+
+pub fn read_quad(s: &[u8]) -> u64
+    requires { ⌜ length (now s) ≡ quad ⌝ }
+    ensures { λ r. ⌜ ((r ≡ 0) ↔ Zeros (now (s .entry))) × (r < 4294967296) ⌝ }
+{
+    value_of(s[3], s[2], s[1], s[0]) as u64
+}
+
+pub fn read_word(s: &[u8]) -> u64
+    requires { ⌜ length (now s) ≡ word ⌝ }
+    ensures { λ r. ⌜ (r ≡ 0) ↔ Zeros (now (s .entry)) ⌝ }
+{
+    read_quad(&s[Table::QUAD..Table::WORD]) * 4294967296 + read_quad(&s[0..Table::QUAD])
 }
 
 fn write_byte(s: &mut [u8], v: u8)
@@ -282,6 +301,35 @@ pub fn clear(t: &mut [u8])
     }
 }
 
+// Where a number of the squares, an entry and an update stand.
+pub fn applied_place(s: usize, o: usize) -> usize
+    requires { ⌜ (s < 8) × (o < 8) ⌝ }
+    ensures { λ r. ⌜ r ≡ appliedPlace s o ⌝ }
+{
+    Table::APPLIED + (s * Table::SITES + o) * Table::CLOCK
+}
+
+fn depends_place(s: usize, o: usize) -> usize
+    requires { ⌜ (s < 8) × (o < 8) ⌝ }
+    ensures { λ r. ⌜ r ≡ dependsPlace s o ⌝ }
+{
+    Table::DEPENDS + (s * Table::SITES + o) * Table::CLOCK
+}
+
+pub fn entry_place(s: usize, x: usize) -> usize
+    requires { ⌜ (s < 8) × (x < 64) ⌝ }
+    ensures { λ r. ⌜ r ≡ entryPlace s x ⌝ }
+{
+    Table::STORE + (s * Table::KEYS + x) * Table::RECORD
+}
+
+pub fn update_place(o: usize, p: usize) -> usize
+    requires { ⌜ (o < 8) × (p < 16) ⌝ }
+    ensures { λ r. ⌜ r ≡ updatePlace o p ⌝ }
+{
+    Table::UPDATES + (o * Table::PLACES + p) * Table::RECORD
+}
+
 // Rows of the applied counts and of the dependencies, a row for each site.
 pub fn applied(t: &[u8], from: usize, to: usize) -> [[u16; 8]; 8]
     requires { ⌜ (length (now t) ≡ table .width) × (from ≤ to) × (to ≤ 8) ⌝ }
@@ -302,7 +350,7 @@ pub fn applied_at(t: &[u8], s: usize, o: usize) -> u16
     requires { ⌜ (length (now t) ≡ table .width) × (s < 8) × (o < 8) ⌝ }
     ensures { λ r. ⌜ r ≡ stateOf (now (t .entry)) .applied s o ⌝ }
 {
-    let at = Table::APPLIED + (s * Table::SITES + o) * Table::CLOCK;
+    let at = applied_place(s, o);
     read_clock(&t[at..at + Table::CLOCK])
 }
 
@@ -310,7 +358,7 @@ pub fn depends_at(t: &[u8], s: usize, o: usize) -> u16
     requires { ⌜ (length (now t) ≡ table .width) × (s < 8) × (o < 8) ⌝ }
     ensures { λ r. ⌜ r ≡ stateOf (now (t .entry)) .depends s o ⌝ }
 {
-    let at = Table::DEPENDS + (s * Table::SITES + o) * Table::CLOCK;
+    let at = depends_place(s, o);
     read_clock(&t[at..at + Table::CLOCK])
 }
 
@@ -318,7 +366,7 @@ pub fn entry_at(t: &[u8], s: usize, x: usize) -> Record
     requires { ⌜ (length (now t) ≡ table .width) × (s < 8) × (x < 64) ⌝ }
     ensures { λ r. ⌜ entryOf r ≡ stateOf (now (t .entry)) .store s x ⌝ }
 {
-    let at = Table::STORE + (s * Table::KEYS + x) * Table::RECORD;
+    let at = entry_place(s, x);
     read_record(&t[at..at + Table::RECORD])
 }
 
@@ -326,7 +374,7 @@ pub fn update_at(t: &[u8], o: usize, p: usize) -> Record
     requires { ⌜ (length (now t) ≡ table .width) × (o < 8) × (p < 16) ⌝ }
     ensures { λ r. ⌜ updateOf r ≡ stateOf (now (t .entry)) .updates o p ⌝ }
 {
-    let at = Table::UPDATES + (o * Table::PLACES + p) * Table::RECORD;
+    let at = update_place(o, p);
     read_record(&t[at..at + Table::RECORD])
 }
 
@@ -334,7 +382,7 @@ pub fn set_applied(t: &mut [u8], s: usize, o: usize, c: u16)
     requires { ⌜ (length (now t) ≡ table .width) × (s < 8) × (o < 8) ⌝ }
     ensures { λ _. ⌜ stateOf (now (t .exit)) ≡ withApplied (stateOf (now (t .entry))) (stateOf (now (t .entry)) .applied ⟨ s ⟩⟨ o ≔ c ⟩) ⌝ }
 {
-    let at = Table::APPLIED + (s * Table::SITES + o) * Table::CLOCK;
+    let at = applied_place(s, o);
     write_clock(&mut t[at..at + Table::CLOCK], c);
 }
 
@@ -342,7 +390,7 @@ pub fn set_depends_at(t: &mut [u8], s: usize, o: usize, c: u16)
     requires { ⌜ (length (now t) ≡ table .width) × (s < 8) × (o < 8) ⌝ }
     ensures { λ _. ⌜ stateOf (now (t .exit)) ≡ withDepends (stateOf (now (t .entry))) (stateOf (now (t .entry)) .depends ⟨ s ⟩⟨ o ≔ c ⟩) ⌝ }
 {
-    let at = Table::DEPENDS + (s * Table::SITES + o) * Table::CLOCK;
+    let at = depends_place(s, o);
     write_clock(&mut t[at..at + Table::CLOCK], c);
 }
 
@@ -358,7 +406,7 @@ pub fn set_entry(t: &mut [u8], s: usize, x: usize, e: Record)
     requires { ⌜ (length (now t) ≡ table .width) × (s < 8) × (x < 64) ⌝ }
     ensures { λ _. ⌜ stateOf (now (t .exit)) ≡ withStore (stateOf (now (t .entry))) (stateOf (now (t .entry)) .store ⟨ s ⟩⟨ x ≔ entryOf e ⟩) ⌝ }
 {
-    let at = Table::STORE + (s * Table::KEYS + x) * Table::RECORD;
+    let at = entry_place(s, x);
     write_record(&mut t[at..at + Table::RECORD], e);
 }
 
@@ -366,6 +414,6 @@ pub fn set_update(t: &mut [u8], o: usize, p: usize, u: Record)
     requires { ⌜ (length (now t) ≡ table .width) × (o < 8) × (p < 16) ⌝ }
     ensures { λ _. ⌜ stateOf (now (t .exit)) ≡ withUpdates (stateOf (now (t .entry))) (stateOf (now (t .entry)) .updates ⟨ o ⟩⟨ p ≔ updateOf u ⟩) ⌝ }
 {
-    let at = Table::UPDATES + (o * Table::PLACES + p) * Table::RECORD;
+    let at = update_place(o, p);
     write_record(&mut t[at..at + Table::RECORD], u);
 }

@@ -1,29 +1,33 @@
 -- A blank entry is 24 zero bytes, and a retained update stands where code reads it. Assumes nothing.
 use mathlib.Core.Path.{_≡_, refl, sym, ap, _∙_}
-use mathlib.Core.Bool.{Bool, true, false, _&&_, and-false}
+use mathlib.Core.Bool.{Bool, true, false, _&&_, and-false, and-true, or-false}
 use mathlib.Core.List.{List}
 use mathlib.Core.Logic.{⊎-elim, _≢_, _↔_}
-use Prim.Native.Nat.{ℕ, suc, _+_, _*_, _-_, _%_, _≤_, _<_}
+use Prim.Native.Nat.{ℕ, suc, _+_, _-_, _%_, _≤_, _<_}
 use native.Mathlib.Numerals.{add-one}
 use native.Mathlib.Omega.{arith}
-use lib.ListN.{length, getD}
-use lib.Dec.{eqb, ltb}
-use borrow.Author.Tests.{lt-leb, ltb-true, ltb-false, eqb-true, eqb-false, ne-eqb}
+use lib.ListN.{length}
+use lib.Dec.{ltb}
+use borrow.Author.Tests.{le-leb, lt-leb}
 use Rattle.clock.specs.Map.{all}
 use Rattle.clock.specs.Vector.{Vector}
 use Rattle.clock.proofs.Maps.{true-or-false}
 use Rattle.clock.proofs.Says.{says-itself, says-same, says-eq, says-and}
-use Rattle.layout.specs.State.{State, fields, toEntry, toUpdate, stateOf, table, storeAt, updatesAt}
+use Rattle.layout.specs.State.{State, Entry, fields, toEntry, toUpdate, stateOf}
 use Rattle.layout.specs.Ranges.{Bytes, Zeros}
-use Rattle.layout.specs.Records.{word, fieldsAt}
-use Rattle.layout.proofs.Zeros.{zero-number, number-zero, zeros-part, zeros-long, zero-fields, fields-zero}
-use Rattle.layout.proofs.Splice.{part, getD-part, length-part}
-use Rattle.layout.proofs.RoundTrip.{bytes-part}
-use Rattle.layout.proofs.Places.{clock-bytes, entry-read, update-read}
+use Rattle.layout.specs.Records.{fieldsAt, entryPlace, updatePlace}
+use Rattle.layout.proofs.Zeros.{zeros-are, zeros-part, zeros-long, zeros-below, zero-fields, fields-zero}
+use Rattle.layout.proofs.Splice.{part, length-part}
+use Rattle.layout.proofs.Places.{clock-read, entry-read, update-read}
 use Rattle.rules.specs.Sound.{Blank, blank, place, sound, header, counted, written, lowest, holds, retains}
 use Rattle.laws.proofs.Tested.{range-says, blank-says}
-use Rattle.sound.specs.Checks.{rangeIn, headerIn, markIn, marksIn, putIn, writtenIn, heldIn, bodyIn}
+use Rattle.sound.specs.Checks.{rangeIn, headerIn, writtenIn, appliedIn, noneIn, heldIn, bodyIn}
+use Rattle.sound.specs.declared.Stray.{Stray}
 use Rattle.sound.proofs.Origins.{bySite, by-origin}
+
+-- the bits of both numbers
+abbrev Both : (a b r : ℕ) → Type 0
+Both a b r = (a ≤ r) × (b ≤ r) × (r ≤ a + b)
 
 module _ (l : List ℕ) where
   blank-of : Zeros l → Blank (toEntry (fieldsAt l))
@@ -37,87 +41,59 @@ module _ (l : List ℕ) where
     (λ h. blank-says (toEntry (fieldsAt l)) .1 (blank-of h)),
   )
 
-  -- the first word tells a written entry from a blank one
-  module _ (hl : length l ≡ fields .width) (hb : Bytes l) (n : ℕ) (row : Vector) where
-    abbrev at-word : ℕ → ℕ
-    at-word o = word .dec (part l o 8)
+  -- an entry of clock 0, by the parts that code reads: what is stray with it
+  module _ (hl : length l ≡ fields .width) (hb : Bytes l) (none : toEntry (fieldsAt l) .clock ≡ 0) (z : Stray) where
+    parts-zero : Zeros (part l 0 4) → Zeros (part l 4 2) → Zeros (part l 8 8) → Zeros (part l 16 8) → blank (toEntry (fieldsAt l)) ≡ true
+    parts-zero value tag left right =
+        zero-bytes hl hb .1 (zeros-long l 24 (omega arith)
+        (zeros-below l 16 8 (zeros-below l 8 8 (zeros-below l 6 2 (zeros-below l 4 2 (zeros-below l 0 4 (λ j h. absurd (omega arith)) value) tag)
+        (zeros-are 2 (part l 6 2) (omega (arith, length-part l 6 2 (omega arith))) .0 (clock-read l ∙ none))) left) right))
 
-    full : (o : ℕ) → at-word o ≢ 0 → blank (toEntry (fieldsAt l)) ≡ false
-    full o h =
-        ⊎-elim (λ k. absurd (h (zero-number 8 (part l o 8) (zeros-part l o 8 (zero-bytes hl hb .0 k))))) (λ k. k) (true-or-false (blank (toEntry (fieldsAt l))))
+    pub one-more : {v p a b head left right : ℕ} → (v ≡ 0) ↔ Zeros (part l 0 4) → (p ≡ 0) ↔ Zeros (part l 4 2) → (a ≡ 0) ↔ Zeros (part l 8 8) → (b ≡ 0) ↔ Zeros (part l 16 8)
+        → Both (z .head) (v + p) head → Both (z .left) a left → Both (z .right) b right
+        → noneIn (record { head = head; left = left; right = right }) ≡ (noneIn z && blank (toEntry (fieldsAt l)))
+    one-more {head = head} {left = left} {right = right} v p a b h₁ h₂ h₃ =
+        says-same (says-and (says-and (says-eq head 0) (says-eq left 0)) (says-eq right 0))
+        (says-and (says-and (says-and (says-eq (z .head) 0) (says-eq (z .left) 0)) (says-eq (z .right) 0)) (says-itself (blank (toEntry (fieldsAt l))))) (
+          (λ r. (
+            ((omega (arith, r .0 .0, h₁), omega (arith, r .0 .1, h₂)), omega (arith, r .1, h₃)),
+            parts-zero (v .0 (omega (arith, r .0 .0, h₁))) (p .0 (omega (arith, r .0 .0, h₁))) (a .0 (omega (arith, r .0 .1, h₂))) (b .0 (omega (arith, r .1, h₃))),
+          )),
+          λ r.
+              let zeros = zero-bytes hl hb .0 (r .1) in (
+                (omega (arith, r .0 .0 .0, h₁, v .1 (zeros-part l 0 4 zeros), p .1 (zeros-part l 4 2 zeros)), omega (arith, r .0 .0 .1, h₂, a .1 (zeros-part l 8 8 zeros))),
+                omega (arith, r .0 .1, h₃, b .1 (zeros-part l 16 8 zeros)),
+              ),
+        )
 
-    byte : (o : ℕ) → at-word o ≡ 0 → (j : ℕ) → o ≤ j → j < o + 8 → getD l j 0 ≡ 0
-    byte o h j from below =
-        let e : o + (j - o) ≡ j = omega arith in
-        ap (λ (i : ℕ). getD l i 0) (sym e) ∙ sym (getD-part l o 8 (j - o) (omega arith)) ∙ number-zero 8 (part l o 8) h (j - o) (omega arith)
+-- the clock tells a written entry from a blank one, where code reads it
+module _ (t : List ℕ) (s x : ℕ) {at : ℕ} (hs : s < 8) (hx : x < 64) (place : at ≡ entryPlace s x) (n : ℕ) (row : Vector) where
+  abbrev entry : Entry
+  entry = toEntry (fieldsAt (part t at (at + fields .width - at)))
 
-    empty : at-word 0 ≡ 0 → at-word 8 ≡ 0 → at-word 16 ≡ 0 → blank (toEntry (fieldsAt l)) ≡ true
-    empty a b c =
-        zero-bytes hl hb .1 (zeros-long l 24 (omega arith) λ j h.
-        ⊎-elim
-        (λ (x : ltb j 8 ≡ true). byte 0 a j (omega arith) (omega (arith, ltb-true j 8 x)))
-        (λ (x : ltb j 8 ≡ false).
-        ⊎-elim
-        (λ (y : ltb j 16 ≡ true). byte 8 b j (ltb-false j 8 x) (omega (arith, ltb-true j 16 y)))
-        (λ (y : ltb j 16 ≡ false). byte 16 c j (ltb-false j 16 y) (omega arith))
-        (true-or-false (ltb j 16)))
-        (true-or-false (ltb j 8)))
+  there : writtenIn n row (stateOf t .store s x) ≡ writtenIn n row entry
+  there = ap (writtenIn n row) (sym (entry-read t s x hs hx place))
 
-    unwritten : at-word 0 ≡ 0 → (o : ℕ) → at-word o ≢ 0 → writtenIn n row (toEntry (fieldsAt l)) ≡ false
-    unwritten z o h =
-        let none : fieldsAt l .1 .1 .1 .0 ≡ 0 =
-        omega (arith, clock-bytes l, byte 0 z 6 (omega arith) (omega arith), byte 0 z 7 (omega arith) (omega arith)) in
-        rw (full o h, lt-leb 1 (fieldsAt l .1 .1 .1 .0) (omega (arith, none)), and-false (ltb (fieldsAt l .1 .0) n))
+  pub blank-here : entry .clock ≡ 0 → writtenIn n row (stateOf t .store s x) ≡ blank entry
+  blank-here h = there ∙ rw (lt-leb 1 (entry .clock) (omega (arith, h)), and-false (ltb (entry .origin) n)) (or-false (blank entry))
 
-    blank-word : at-word 0 ≡ 0 → writtenIn n row (toEntry (fieldsAt l)) ≡ eqb (marksIn l) 0
-    blank-word z =
-        ⊎-elim
-        (λ (p : eqb (at-word 8) 0 ≡ true).
-        ⊎-elim
-        (λ (q : eqb (at-word 16) 0 ≡ true). rw (p, q, empty z (eqb-true _ _ p) (eqb-true _ _ q)))
-        (λ (q : eqb (at-word 16) 0 ≡ false). rw (p, q) (unwritten z 16 (eqb-false _ _ q)))
-        (true-or-false (eqb (at-word 16) 0)))
-        (λ (p : eqb (at-word 8) 0 ≡ false). unwritten z 8 (eqb-false _ _ p) ∙ sym (rw p (ne-eqb (1 + markIn (at-word 16)) 0 (omega arith))))
-        (true-or-false (eqb (at-word 8) 0))
+  pub put-here : {o c : ℕ} → o ≡ entry .origin → c ≡ entry .clock → c ≢ 0 → writtenIn n row (stateOf t .store s x) ≡ appliedIn n row o c
+  put-here origin clock h =
+      let full : blank entry ≡ false = ⊎-elim (λ b. absurd (h (clock ∙ blank-says entry .0 b .clock))) (λ b. b) (true-or-false (blank entry)) in
+      there ∙ rw (full, le-leb 1 (entry .clock) (omega (arith, h, clock)), and-true (ltb (entry .origin) n)) (λ i. appliedIn n row (sym origin i) (sym clock i))
 
--- the same of an entry in its place, as code reads it
-module _ (t : List ℕ) (ht : length t ≡ table .width) (hb : Bytes t) (s x : ℕ) (hs : s < 8) (hx : x < 64) (n : ℕ) (row : Vector) where
-  abbrev at : ℕ
-  at = storeAt + s * (64 * fields .width) + x * fields .width
-
-  abbrev entry : List ℕ
-  entry = part t at (at + fields .width - at)
-
-  long : length entry ≡ fields .width
-  long = length-part t at (at + fields .width - at) (omega arith) ∙ omega arith
-
-  there : toEntry (fieldsAt entry) ≡ stateOf t .store s x
-  there =
-      let e : at ≡ storeAt + (s * 64 + x) * fields .width = omega arith in
-      ap (λ (o : ℕ). toEntry (fieldsAt (part t o (o + fields .width - o)))) e ∙ entry-read t s x hs hx
-
-  pub blank-here : word .dec (part entry 0 8) ≡ 0 → writtenIn n row (stateOf t .store s x) ≡ eqb (marksIn entry) 0
-  blank-here z = sym (ap (writtenIn n row) there) ∙ blank-word entry long (bytes-part t at (at + fields .width - at) hb) n row z
-
-  pub put-here : word .dec (part entry 0 8) ≢ 0 → (r b : Bool) → r ≡ putIn n row (stateOf t .store s x) → r ≡ b → writtenIn n row (stateOf t .store s x) ≡ b
-  put-here h r b e q = rw (sym (ap blank there) ∙ full entry long (bytes-part t at (at + fields .width - at) hb) n row 0 h) (sym e ∙ q)
-
--- one entry more, with m marks
-pub entry-more : (p : ℕ → Bool) (x stray m sum : ℕ) → all x p ≡ eqb stray 0 → p x ≡ eqb m 0 → sum ≡ stray + m → all (x + 1) p ≡ eqb sum 0
+-- one entry more
+pub all-next : (p : ℕ → Bool) (x : ℕ) → all (x + 1) p ≡ (all x p && p x)
 unfolding all
-entry-more p x stray m sum e f g = rw (add-one, e, f, g) (none stray m)
-  where
-    none : (a b : ℕ) → eqb a 0 && eqb b 0 ≡ eqb (a + b) 0
-    none a b = says-same (says-and (says-eq a 0) (says-eq b 0)) (says-eq (a + b) 0) ((λ r. omega (arith, r .0, r .1)), λ r. (omega arith, omega arith))
+all-next p x = rw add-one
 
 -- the update with clock low + suc i, where code reads it
-pub held-at : (t : List ℕ) (k o low i : ℕ) → o < 8
-    → let at = updatesAt + (o * 16 + (low + i) % 16) * fields .width in
-    heldIn k (low + i + 1) (toUpdate (fieldsAt (part t at (at + fields .width - at)))) ≡ heldIn k (low + suc i) (stateOf t .updates o (place (low + suc i)))
-held-at t k o low i ho =
-    let e : low + i + 1 ≡ low + suc i = omega arith in
+pub held-at : (t : List ℕ) (k o low i : ℕ) {at : ℕ} → o < 8 → at ≡ updatePlace o ((low + i) % 16)
+    → heldIn k (low + i + 1) (toUpdate (fieldsAt (part t at (at + fields .width - at)))) ≡ heldIn k (low + suc i) (stateOf t .updates o (place (low + suc i)))
+held-at t k o low i ho e =
+    let c : low + i + 1 ≡ low + suc i = omega arith in
     let p : low + i ≡ low + suc i - 1 = omega arith in
-    (λ j. heldIn k (e j) (update-read t o ((low + i) % 16) ho (omega arith) j)) ∙ (λ j. heldIn k (low + suc i) (stateOf t .updates o (p j % 16)))
+    (λ j. heldIn k (c j) (update-read t o ((low + i) % 16) ho (omega arith) e j)) ∙ (λ j. heldIn k (low + suc i) (stateOf t .updates o (p j % 16)))
 
 -- the whole test, from the header that code has read
 module _ (S : State) (n k y z : ℕ) (en : n ≡ S .n) (ek : k ≡ S .k) (ey : y ≡ S .byte2) (ez : z ≡ S .byte3) where
@@ -129,9 +105,9 @@ module _ (S : State) (n k y z : ℕ) (en : n ≡ S .n) (ek : k ≡ S .k) (ey : y
   unfolding sound
   unsound-header h = sym (rw (sym header-is ∙ h))
 
-  pub sound-body : headerIn n k y z ≡ true → bodyIn S (S .applied) n k ≡ sound S
+  pub sound-body : headerIn n k y z ≡ true → bodyIn S n k ≡ sound S
   unfolding sound counted written lowest holds retains
-  sound-body h = by-origin S (S .applied) n k ∙ (λ i. bySite S (S .applied) (en i) (ek i)) ∙ sym (rw (sym header-is ∙ h))
+  sound-body h = by-origin S n k ∙ (λ i. bySite S (en i) (ek i)) ∙ sym (rw (sym header-is ∙ h))
 
 pub range : (n k : ℕ) → rangeIn n k ≡ true → (n ≤ 8) × (k ≤ 64)
 range n k h = let r = range-says n k .0 h in (r .0 .0 .1, r .1)

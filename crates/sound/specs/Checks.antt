@@ -1,15 +1,13 @@
 -- The parts of the soundness test, over numbers that the code has at hand. None need be believed: the check promises the
 -- rules' own `sound`, and these are only what its parts promise each other. Assumes nothing.
 use mathlib.Core.Bool.{Bool, _&&_, _||_}
-use mathlib.Core.List.{List}
 use Prim.Native.Nat.{ℕ, suc, _+_, _-_}
 use lib.Dec.{eqb, ltb, leb}
-use lib.ListN.{take, drop}
-use Rattle.clock.specs.Map.{if_then_else_, all}
+use Rattle.clock.specs.Map.{all}
 use Rattle.clock.specs.Vector.{Vector}
-use Rattle.layout.specs.State.{State, Entry, Update, vector, fields}
-use Rattle.layout.specs.Records.{word}
+use Rattle.layout.specs.State.{State, Entry, Update}
 use Rattle.rules.specs.Sound.{blank, smallest, place}
+use Rattle.sound.specs.declared.Stray.{Stray}
 
 -- n and k are in range
 abbrev pub rangeIn : (n k : ℕ) → Bool
@@ -27,23 +25,21 @@ putIn n row e = ltb (e .origin) n && leb 1 (e .clock) && leb (e .clock) (row (e 
 abbrev pub writtenIn : (n : ℕ) → Vector → Entry → Bool
 writtenIn n row e = blank e || putIn n row e
 
--- 1 for a word that is not 0
-abbrev pub markIn : ℕ → ℕ
-markIn w = if eqb w 0 then 0 else 1
+-- an origin below n, and at most the count that row has of it
+abbrev pub appliedIn : (n : ℕ) → Vector → (origin clock : ℕ) → Bool
+appliedIn n row o c = ltb o n && leb c (row o)
 
--- how many of the two words of an entry's vector, the last of its bytes, are not 0
-abbrev pub marksIn : List ℕ → ℕ
-marksIn l =
-    let at = fields .width - vector .width in
-    markIn (word .dec (take (word .width) (drop at l))) + markIn (word .dec (take (word .width) (drop (at + word .width) l)))
+-- nothing stands where zeros belong
+abbrev pub noneIn : Stray → Bool
+noneIn z = eqb (z .head) 0 && eqb (z .left) 0 && eqb (z .right) 0
 
 -- for s below n and each key below k
-abbrev pub entriesIn : State → (ℕ → Vector) → (n k : ℕ) → Bool
-entriesIn S a n k = all n (λ s. all k (λ x. writtenIn n (a s) (S .store s x)))
+abbrev pub entriesIn : State → (n k : ℕ) → Bool
+entriesIn S n k = all n (λ s. all k (λ x. writtenIn n (S .applied s) (S .store s x)))
 
 -- the smallest applied[s][o] over sites s below n
-abbrev pub lowestIn : (ℕ → Vector) → (n o : ℕ) → ℕ
-lowestIn a n o = smallest n (λ s. a s o) (a o o)
+abbrev pub lowestIn : State → (n o : ℕ) → ℕ
+lowestIn S n o = smallest n (λ s. S .applied s o) (S .applied o o)
 
 -- the place of c holds clock c and a key below k
 abbrev pub heldIn : (k c : ℕ) → Update → Bool
@@ -58,12 +54,12 @@ abbrev pub lagIn : State → (k o low top : ℕ) → Bool
 lagIn S k o low top = leb top (low + 16) && retainedIn S k o low top
 
 -- for sites s below n: applied[s][o] is at most applied[o][o]; and what o's smallest count asks
-abbrev pub originIn : State → (ℕ → Vector) → (n k o : ℕ) → Bool
-originIn S a n k o = all n (λ s. leb (a s o) (a o o)) && lagIn S k o (lowestIn a n o) (a o o)
+abbrev pub originIn : State → (n k o : ℕ) → Bool
+originIn S n k o = all n (λ s. leb (S .applied s o) (S .applied o o)) && lagIn S k o (lowestIn S n o) (S .applied o o)
 
-abbrev pub originsIn : State → (ℕ → Vector) → (n k : ℕ) → Bool
-originsIn S a n k = all n (originIn S a n k)
+abbrev pub originsIn : State → (n k : ℕ) → Bool
+originsIn S n k = all n (originIn S n k)
 
 -- all but the header
-abbrev pub bodyIn : State → (ℕ → Vector) → (n k : ℕ) → Bool
-bodyIn S a n k = entriesIn S a n k && originsIn S a n k
+abbrev pub bodyIn : State → (n k : ℕ) → Bool
+bodyIn S n k = entriesIn S n k && originsIn S n k

@@ -1,12 +1,12 @@
 // Whether a table is sound: the check may stop at the first fact that fails.
 ghost use mathlib.Core.Path.{_≡_};
-ghost use Prim.Native.Nat.{_≤_, _<_, min};
+ghost use mathlib.Core.Bool.{true, _&&_};
+ghost use Prim.Native.Nat.{_+_, _≤_, _<_, min};
 ghost use lib.ListN.{length};
-ghost use Rattle.clock.specs.Clock.{cells};
-ghost use Rattle.layout.specs.State.{stateOf, fields, toUpdate, lastClock, table};
-ghost use Rattle.layout.specs.Records.{cells2, fieldsAt};
-ghost use Rattle.rules.specs.Sound.{sound};
-ghost use Rattle.sound.specs.Checks.{rangeIn, headerIn, markIn, marksIn, putIn, entriesIn, heldIn, retainedIn, lagIn, originsIn, bodyIn};
+ghost use Rattle.layout.specs.State.{stateOf, fields, toEntry, toUpdate, lastClock, table};
+ghost use Rattle.layout.specs.Records.{fieldsAt};
+ghost use Rattle.rules.specs.Sound.{sound, blank};
+ghost use Rattle.sound.specs.Checks.{rangeIn, headerIn, noneIn, appliedIn, entriesIn, heldIn, retainedIn, lagIn, originsIn, bodyIn};
 use layout::Header;
 use layout::Table;
 
@@ -39,67 +39,98 @@ fn header_sound(h: Header) -> bool
     h.byte3 == 0
 }
 
-// 1 for a word that is not 0.
-fn mark(w: u64) -> usize
-    ensures { λ r. ⌜ (r ≡ markIn w) × (r ≤ 1) ⌝ }
+// The bits of both.
+fn either(a: u64, b: u64) -> u64
+    ensures { λ r. ⌜ (a ≤ r) × (b ≤ r) × (r ≤ a + b) ⌝ }
 {
-    if w == 0 { 0 } else { 1 }
+    a | b
 }
 
-// How many of the two words of an entry's vector are not 0.
-fn marks(e: &[u8]) -> usize
-    requires { ⌜ length (now e) ≡ fields .width ⌝ }
-    ensures { λ r. ⌜ (r ≡ marksIn (now (e .entry))) × (r ≤ 2) ⌝ }
-{
-    mark(layout::read_word(&e[Table::RECORD_VECTOR..Table::RECORD_MIDDLE]))
-        + mark(layout::read_word(&e[Table::RECORD_MIDDLE..Table::RECORD]))
+// What stands in entries of clock 0 where zeros belong: before the clock, and in the two halves of the vector. Three
+// numbers, since the compiler reads eight bytes in one step only where no others are mixed in.
+struct Stray {
+    head: u64,
+    left: u64,
+    right: u64,
 }
 
-// An origin below n, and a clock that the site has applied of it. The place is worked out anew: otherwise the compiler
-// takes the clock out of the word that the caller has read, and a full table costs a quarter more.
-fn written(t: &[u8], s: usize, x: usize, row: &[u16; 8], n: usize) -> bool
-    requires { ⌜ (length (now t) ≡ table .width) × (s < 8) × (x < 64) × (n ≤ 8) ⌝ }
-    ensures { λ r. ⌜ r ≡ putIn n (cells (now (row .entry))) (stateOf (now (t .entry)) .store s x) ⌝ }
-{
-    let at = Table::STORE + (s * Table::KEYS + x) * Table::RECORD;
-    let e = &t[at..at + Table::RECORD];
-    let clock = layout::read_clock(&e[Table::RECORD_CLOCK..Table::RECORD_VECTOR]);
-    if clock == 0 {
-        return false;
+impl Stray {
+    fn none() -> Self
+        ensures { λ r. ⌜ noneIn r ≡ true ⌝ }
+    {
+        Stray {
+            head: 0,
+            left: 0,
+            right: 0,
+        }
     }
-    let origin = layout::wide_byte(e[Table::RECORD_TAG]);
+
+    // With those of one entry more.
+    fn and(self, e: &[u8]) -> Self
+        requires { ⌜ (length (now e) ≡ fields .width) × (toEntry (fieldsAt (now e)) .clock ≡ 0) ⌝ }
+        ensures { λ r. ⌜ noneIn r ≡ (noneIn self && blank (toEntry (fieldsAt (now (e .entry))))) ⌝ }
+    {
+        let head = layout::read_quad(&e[Table::RECORD_VALUE..Table::RECORD_TAG])
+            + layout::read_pair(&e[Table::RECORD_TAG..Table::RECORD_CLOCK]);
+        let left = layout::read_word(&e[Table::RECORD_VECTOR..Table::RECORD_MIDDLE]);
+        let right = layout::read_word(&e[Table::RECORD_MIDDLE..Table::RECORD]);
+        Stray {
+            head: either(self.head, head),
+            left: either(self.left, left),
+            right: either(self.right, right),
+        }
+    }
+
+    fn is_none(self) -> bool
+        ensures { λ r. ⌜ r ≡ noneIn self ⌝ }
+    {
+        if self.head != 0 {
+            return false;
+        }
+        if self.left != 0 {
+            return false;
+        }
+        self.right == 0
+    }
+}
+
+// An origin below n, and at most the count that the site has applied of it.
+fn applied_here(t: &[u8], s: usize, origin: usize, clock: u16, n: usize) -> bool
+    requires { ⌜ (length (now t) ≡ table .width) × (s < 8) × (n ≤ 8) ⌝ }
+    ensures { λ r. ⌜ r ≡ appliedIn n (stateOf (now (t .entry)) .applied s) origin clock ⌝ }
+{
     if n <= origin {
         return false;
     }
-    clock <= row[origin]
+    clock <= layout::applied_at(t, s, origin)
 }
 
-// Eight bytes tell a written entry from a blank one. The vectors of a site's blank entries are judged together, behind
-// its last key, so that an entry takes one branch that is hard to foretell.
-fn entries_sound(t: &[u8], a: &[[u16; 8]; 8], n: usize, k: usize) -> bool
+// The clock tells a written entry from a blank one. What a site's blank entries hold is judged together, behind its last
+// key, so that an entry takes one branch that is hard to foretell.
+fn entries_sound(t: &[u8], n: usize, k: usize) -> bool
     requires { ⌜ (length (now t) ≡ table .width) × (n ≤ 8) × (k ≤ 64) ⌝ }
-    ensures { λ r. ⌜ r ≡ entriesIn (stateOf (now (t .entry))) (cells2 (now (a .entry))) n k ⌝ }
+    ensures { λ r. ⌜ r ≡ entriesIn (stateOf (now (t .entry))) n k ⌝ }
 {
     let mut ok = true;
     let mut s = 0;
     'scan: while s < n {
-        let row = &a[s];
-        let mut stray = 0;
+        let mut stray = Stray::none();
         let mut x = 0;
         while x < k {
-            let at = Table::STORE + s * Table::SHELF + x * Table::RECORD;
+            let at = layout::entry_place(s, x);
             let e = &t[at..at + Table::RECORD];
-            if layout::read_word(&e[0..Table::RECORD_VECTOR]) == 0 {
-                stray += marks(e);
+            let clock = layout::read_clock(&e[Table::RECORD_CLOCK..Table::RECORD_VECTOR]);
+            if clock == 0 {
+                stray = stray.and(e);
             } else {
-                if !written(t, s, x, row, n) {
+                if !applied_here(t, s, layout::wide_byte(e[Table::RECORD_TAG]), clock, n) {
                     ok = false;
                     break 'scan;
                 }
             }
             x += 1;
         }
-        if stray != 0 {
+        if !stray.is_none() {
             ok = false;
             break 'scan;
         }
@@ -132,7 +163,7 @@ fn retained(t: &[u8], k: usize, o: usize, low: usize, top: usize) -> bool
 {
     let mut i = 0;
     while i < top - low {
-        let at = Table::UPDATES + (o * Table::PLACES + (low + i) % Table::PLACES) * Table::RECORD;
+        let at = layout::update_place(o, (low + i) % Table::PLACES);
         if !held(&t[at..at + Table::RECORD], k, low + i + 1) {
             return false;
         }
@@ -153,18 +184,18 @@ fn lag_sound(t: &[u8], k: usize, o: usize, low: usize, top: usize) -> bool
 }
 
 // No site has applied more of o's puts than o, nor more than 16 fewer; o's updates that some site lacks are held.
-fn origins_sound(t: &[u8], a: &[[u16; 8]; 8], n: usize, k: usize) -> bool
+fn origins_sound(t: &[u8], n: usize, k: usize) -> bool
     requires { ⌜ (length (now t) ≡ table .width) × (n ≤ 8) ⌝ }
-    ensures { λ r. ⌜ r ≡ originsIn (stateOf (now (t .entry))) (cells2 (now (a .entry))) n k ⌝ }
+    ensures { λ r. ⌜ r ≡ originsIn (stateOf (now (t .entry))) n k ⌝ }
 {
     let mut ok = true;
     let mut o = 0;
     'scan: while o < n {
-        let top = layout::wide(a[o][o]);
+        let top = layout::wide(layout::applied_at(t, o, o));
         let mut low = top;
         let mut s = 0;
         while s < n {
-            let here = layout::wide(a[s][o]);
+            let here = layout::wide(layout::applied_at(t, s, o));
             if top < here {
                 ok = false;
                 break 'scan;
@@ -183,13 +214,12 @@ fn origins_sound(t: &[u8], a: &[[u16; 8]; 8], n: usize, k: usize) -> bool
 
 fn body_sound(t: &[u8], n: usize, k: usize) -> bool
     requires { ⌜ (length (now t) ≡ table .width) × (n ≤ 8) × (k ≤ 64) ⌝ }
-    ensures { λ r. ⌜ r ≡ bodyIn (stateOf (now (t .entry))) (stateOf (now (t .entry)) .applied) n k ⌝ }
+    ensures { λ r. ⌜ r ≡ bodyIn (stateOf (now (t .entry))) n k ⌝ }
 {
-    let a = layout::applied(t, 0, n);
-    if !entries_sound(t, &a, n, k) {
+    if !entries_sound(t, n, k) {
         return false;
     }
-    origins_sound(t, &a, n, k)
+    origins_sound(t, n, k)
 }
 
 pub fn sound(t: &[u8]) -> bool

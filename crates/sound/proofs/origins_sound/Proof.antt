@@ -8,7 +8,6 @@ use borrow.Author.Tests.{not-true, not-false, le-leb, lt-leb}
 use Rattle.clock.specs.Map.{all}
 use Rattle.clock.proofs.Below.{all-none, all-more, all-done, all-fails}
 use Rattle.layout.specs.State.{stateOf}
-use Rattle.layout.specs.Records.{cells2}
 use Rattle.rules.specs.Sound.{smallest}
 use Rattle.sound.specs.Checks.{originIn}
 use Rattle.sound.proofs.Origins.{lag-is}
@@ -17,50 +16,53 @@ use Rattle.sound.proofs.origins_sound.Statement.{statement}
 use Rattle.sound.proofs.origins_sound.Tie as tie
 
 abbrev Inv-loop : tie.InvT-loop
-Inv-loop t a n k ok₀ o top low₀ s₀ ok low s =
-    (s ≤ n) × (ok ≡ true) × (low ≡ smallest s (λ s. cells2 a s o) (cells2 a o o)) × (low ≤ top) × (all s (λ s. leb (cells2 a s o) (cells2 a o o)) ≡ true)
+Inv-loop t n k ok₀ o top low₀ s₀ ok low s =
+    let a = stateOf t .applied in
+    (s ≤ n) × (ok ≡ true) × (low ≡ smallest s (λ s. a s o) (a o o)) × (low ≤ top) × (all s (λ s. leb (a s o) (a o o)) ≡ true)
 
 abbrev μ-loop : tie.MeasureT-loop
-μ-loop t a n k ok₀ o top low₀ s₀ ok low s = n - s
+μ-loop t n k ok₀ o top low₀ s₀ ok low s = n - s
 
 abbrev Inv-scan : tie.InvT-scan
-Inv-scan t a n k ok₀ o₀ ok o = (o ≤ n) × (ok ≡ true) × (all o (originIn (stateOf t) (cells2 a) n k) ≡ true)
+Inv-scan t n k ok₀ o₀ ok o = (o ≤ n) × (ok ≡ true) × (all o (originIn (stateOf t) n k) ≡ true)
 
 abbrev μ-scan : tie.MeasureT-scan
-μ-scan t a n k ok₀ o₀ ok o = n - o
+μ-scan t n k ok₀ o₀ ok o = n - o
 
 scan-holds : tie.Need-scan-holds Inv-loop μ-loop Inv-scan μ-scan
 scan-holds c = (search needs, refl, all-none _)
 
 loop-holds : tie.Need-loop-holds Inv-loop μ-loop Inv-scan μ-scan
 unfolding smallest
-loop-holds c = (search needs, c .before .before .before .scan .inv .1, c .wide .ensures .0, omega arith, all-none _)
+loop-holds c = (search needs, c .before .before .before .scan .inv .1, c .wide .ensures .0 ∙ c .before .applied-at .ensures, omega arith, all-none _)
 
 loop-again : tie.Need-loop-again Inv-loop μ-loop Inv-scan μ-scan
 unfolding smallest
 loop-again c =
-    let sites = c .before .before .before .before .before in
+    let here = c .before .before in
+    let sites = here .before .before .before in
     let top = sites .before in
     let scan = top .before .before .before in
     let l = sites .loop in
     let o = scan .scan .o in
-    let f = cells2 (scan .before .before .args .a .now) in
-    let here = c .before .before .wide2 .ensures .0 in (
+    let f = stateOf (scan .before .before .args .t .now) .applied in
+    let is = here .wide2 .ensures .0 ∙ here .before .applied-at2 .ensures in (
       omega arith,
       l .inv .1,
-      rw add-one (c .lesser .ensures ∙ (λ i. min (l .inv .2 i) (here i))),
+      rw add-one (c .lesser .ensures ∙ (λ i. min (l .inv .2 i) (is i))),
       omega (arith, c .lesser .ensures),
-      all-more _ _ (l .inv .4) (le-leb (f (l .s) o) (f o o) (omega (arith, here, top .wide .ensures .0, c .before .if1 .left))),
+      all-more _ _ (l .inv .4) (le-leb (f (l .s) o) (f o o) (omega (arith, is, top .wide .ensures .0 ∙ top .before .applied-at .ensures, c .before .if1 .left))),
     )
 
 scan-again : tie.Need-scan-again Inv-loop μ-loop Inv-scan μ-scan
 scan-again c =
     let done = c .before .before in
     let sites = done .before in
-    let scan = sites .before .before .before .before in
+    let top = sites .before in
+    let scan = top .before .before .before in
     let a = scan .before .before .args in
     let l = sites .loop in
-    let lag = lag-is (stateOf (a .t .now)) (cells2 (a .a .now)) (a .n) (a .k) (scan .scan .o) (l .s) (c .before .lag-sound .ensures) (l .inv .2) (l .inv .0) (done .loop-test .left) (sites .before .wide .ensures .0) in
+    let lag = lag-is (stateOf (a .t .now)) (a .n) (a .k) (scan .scan .o) (l .s) (c .before .lag-sound .ensures) (l .inv .2) (l .inv .0) (done .loop-test .left) (top .wide .ensures .0 ∙ top .before .applied-at .ensures) in
     (omega arith, l .inv .1, all-more _ _ (scan .scan .inv .2) (rw (all-done _ _ _ (l .inv .0) (done .loop-test .left) (l .inv .4)) (sym lag ∙ not-false _ (c .if2 .left))))
 
 returns : tie.Need-returns Inv-loop μ-loop Inv-scan μ-scan
@@ -70,28 +72,29 @@ returns c =
 
 returns-2 : tie.Need-returns-2 Inv-loop μ-loop Inv-scan μ-scan
 returns-2 c =
-    let sites = c .before .before .before .before in
+    let here = c .before in
+    let sites = here .before .before .before in
     let top = sites .before in
     let scan = top .before .before .before in
     let a = scan .before .before .args in
     let s = sites .loop .s in
     let o = scan .scan .o in
-    let f = cells2 (a .a .now) in
-    let above = lt-leb (f s o) (f o o) (omega (arith, c .before .wide2 .ensures .0, top .wide .ensures .0, c .if1 .taken)) in
-    sym (all-fails (originIn (stateOf (a .t .now)) f (a .n) (a .k)) (a .n) o (omega arith) (rw (all-fails (λ s. leb (f s o) (f o o)) (a .n) s (omega arith) above)))
+    let f = stateOf (a .t .now) .applied in
+    let above = lt-leb (f s o) (f o o) (omega (arith, here .wide2 .ensures .0 ∙ here .before .applied-at2 .ensures, top .wide .ensures .0 ∙ top .before .applied-at .ensures, c .if1 .taken)) in
+    sym (all-fails (originIn (stateOf (a .t .now)) (a .n) (a .k)) (a .n) o (omega arith) (rw (all-fails (λ s. leb (f s o) (f o o)) (a .n) s (omega arith) above)))
 
 returns-3 : tie.Need-returns-3 Inv-loop μ-loop Inv-scan μ-scan
 returns-3 c =
     let done = c .before .before in
     let sites = done .before in
-    let scan = sites .before .before .before .before in
+    let top = sites .before in
+    let scan = top .before .before .before in
     let a = scan .before .before .args in
     let l = sites .loop in
     let o = scan .scan .o in
     let S = stateOf (a .t .now) in
-    let f = cells2 (a .a .now) in
-    let lag = lag-is S f (a .n) (a .k) o (l .s) (c .before .lag-sound .ensures) (l .inv .2) (l .inv .0) (done .loop-test .left) (sites .before .wide .ensures .0) in
-    sym (all-fails (originIn S f (a .n) (a .k)) (a .n) o (omega arith) (rw (sym lag ∙ not-true _ (c .if2 .taken)) (and-false (all (a .n) (λ s. leb (f s o) (f o o))))))
+    let lag = lag-is S (a .n) (a .k) o (l .s) (c .before .lag-sound .ensures) (l .inv .2) (l .inv .0) (done .loop-test .left) (top .wide .ensures .0 ∙ top .before .applied-at .ensures) in
+    sym (all-fails (originIn S (a .n) (a .k)) (a .n) o (omega arith) (rw (sym lag ∙ not-true _ (c .if2 .taken)) (and-false (all (a .n) (λ s. leb (S .applied s o) (S .applied o o))))))
 
 pub origins-sound-spec : {M : Type 1} → statement M
 origins-sound-spec =
@@ -102,16 +105,10 @@ origins-sound-spec =
     Inv-scan
     μ-scan
     scan-holds
-    (λ c. search needs)  -- mul-wide
-    (λ c. search needs)  -- mul-wide-2
-    (λ c. search needs)  -- index-1-wide
-    (λ c. search needs)  -- index-2-wide
+    (λ c κs. search needs)  -- applied-at-requires
     (λ c κs. search needs)  -- wide-requires
     loop-holds
-    (λ c. search needs)  -- mul-wide-3
-    (λ c. search needs)  -- mul-wide-4
-    (λ c. search needs)  -- index-1-wide-2
-    (λ c. search needs)  -- index-2-wide-2
+    (λ c κs. search needs)  -- applied-at-requires-2
     (λ c κs. search needs)  -- wide-requires-2
     (λ c κs. search needs)  -- lesser-requires
     (λ c. search needs)  -- add-s

@@ -24,15 +24,17 @@ loop-holds c = (search needs, all-none _)
 
 returns : tie.Need-returns Inv-loop μ-loop
 returns c =
-    let l = c .before .before .before .before .loop in
-    let a = c .before .before .before .before .before .before .args in
-    sym (all-fails _ _ (l .i) (omega arith) (sym (c .before .held .ensures ∙ held-at (a .t .now) (a .k) (a .o) (a .low) (l .i) (omega arith)) ∙ not-true _ (c .if1 .taken)))
+    let place = c .before .before .before in
+    let l = place .before .before .loop in
+    let a = place .before .before .before .before .args in
+    sym (all-fails _ _ (l .i) (omega arith) (sym (c .before .held .ensures ∙ held-at (a .t .now) (a .k) (a .o) (a .low) (l .i) (omega arith) (place .update-place .ensures)) ∙ not-true _ (c .if1 .taken)))
 
 loop-again : tie.Need-loop-again Inv-loop μ-loop
 loop-again c =
-    let l = c .before .before .before .before .loop in
-    let a = c .before .before .before .before .before .before .args in
-    (omega arith, all-more _ _ (l .inv .1) (sym (c .before .held .ensures ∙ held-at (a .t .now) (a .k) (a .o) (a .low) (l .i) (omega arith)) ∙ not-false _ (c .if1 .left)))
+    let place = c .before .before .before in
+    let l = place .before .before .loop in
+    let a = place .before .before .before .before .args in
+    (omega arith, all-more _ _ (l .inv .1) (sym (c .before .held .ensures ∙ held-at (a .t .now) (a .k) (a .o) (a .low) (l .i) (omega arith) (place .update-place .ensures)) ∙ not-false _ (c .if1 .left)))
 
 returns-2 : tie.Need-returns-2 Inv-loop μ-loop
 returns-2 c =
@@ -47,11 +49,8 @@ retained-spec =
     μ-loop
     loop-holds
     (λ c. search needs)  -- sub-loop
-    (λ c. search needs)  -- mul-at
-    (λ c. search needs)  -- add-at
-    (λ c. search needs)  -- add-at-2
-    (λ c. search needs)  -- mul-at-2
-    (λ c. search needs)  -- add-at-3
+    (λ c. search needs)  -- add-update-place
+    (λ c κs. search needs)  -- update-place-requires
     (λ c. search needs)  -- add-held
     (λ c. search needs)  -- sub-held
     (λ c. search needs)  -- part-held-start

@@ -26,7 +26,7 @@ returns-2 c =
     let d = c .before .before .before in
     let h = d .before .before .read-header .ensures in
     let S = stateOf (d .before .before .before .before .args .t .now) in
-    c .body-sound .ensures ∙ (λ i. bodyIn S (S .applied) (c .before .before .wide-byte .ensures .0 i) (c .before .wide-byte2 .ensures .0 i))
+    c .body-sound .ensures ∙ (λ i. bodyIn S (c .before .before .wide-byte .ensures .0 i) (c .before .wide-byte2 .ensures .0 i))
     ∙ sound-body S _ _ _ _ (h .n) (h .k) (h .byte2) (h .byte3) (sym (d .before .header-sound .ensures) ∙ not-false _ (d .if1 .left))
 
 pub sound-spec : {M : Type 1} → statement M
