@@ -3,7 +3,7 @@
 # make lib: the proved archive for this machine and its header, build/MACHINE/libforkcanyon.a and build/forkcanyon.h
 # make install PREFIX=dir: both there, with a pkg-config file
 # make story: a backup scan seen from far away, here and in a plain replica
-# make policy: a month of a policy that moves cold files, here and with scans that make them look fresh
+# make policy: a month of a policy that moves cold files, here, with scans that make them look fresh, and with gets for looks
 # make play FILE=x.sched: a schedule written as text, beside its answers
 # make draw FILE=x.sched: the same as a picture, build/x.svg
 # make table FILE=x.sched: the table that a schedule leaves, as bytes, build/x.table

@@ -1,5 +1,6 @@
 /* Times the library against the second program, in turns, and writes the nanoseconds of both for every scene. */
 #include "scenes.h"
+#include "traffic.h"
 
 #include <sched.h>
 #include <stdio.h>
@@ -29,6 +30,31 @@ struct starts {
     unsigned count;
 };
 
+/* Plays the scene once, so that each adopt of it can name what its key holds by then. */
+static void name_adopted(struct scene *scene, const struct starts *starts, unsigned turn)
+{
+    static uint8_t tables[MOST_TABLES][FC_TABLE_BYTES];
+    memcpy(tables, starts->tables, starts->count * sizeof tables[0]);
+    for (unsigned at = 0; at < scene->count; at++) {
+        struct call *call = &scene->calls[at];
+        uint8_t *table = tables[(at + turn) % starts->count];
+        if (call->kind == ADOPT)
+            name_held(call, table);
+        if (make_plain_call(&twin, *call, table) != FC_OK && call->kind == ADOPT) {
+            fputs("bench: an adopt was refused\n", stderr);
+            exit(2);
+        }
+    }
+}
+
+static bool adopts(const struct scene *scene)
+{
+    unsigned at = 0;
+    while (at < scene->count && scene->calls[at].kind != ADOPT)
+        at++;
+    return at < scene->count;
+}
+
 /* Each call is made on the next table, in every turn from another one on: a processor is not to learn them by heart. */
 static double time_scene(const struct library *library, const struct scene *scene, const struct starts *starts,
                          unsigned turn)
@@ -49,10 +75,12 @@ struct cost {
 };
 
 /* Nanoseconds a call: the least of many turns, which other work on the machine disturbs least. */
-static struct cost cost_of(const struct scene *scene, const struct starts *starts, unsigned turns)
+static struct cost cost_of(struct scene *scene, const struct starts *starts, unsigned turns)
 {
     struct cost least = {1e18, 1e18};
     for (unsigned turn = 0; turn < turns; turn++) {
+        if (adopts(scene))
+            name_adopted(scene, starts, turn);
         double ours = time_scene(&forkcanyon, scene, starts, turn);
         double twins = time_scene(&twin, scene, starts, turn);
         least.ours = ours < least.ours ? ours : least.ours;

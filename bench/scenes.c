@@ -19,7 +19,7 @@ static const struct {
     {"reads", {[PUT] = 1, [GET] = 16, [DELIVER] = 2, [DRAIN] = 1}},
     {"writes", {[PUT] = 10, [GET] = 2, [DELIVER] = 4, [DRAIN] = 4}},
     {"links", {[PUT] = 3, [GET] = 2, [DELIVER] = 12, [DRAIN] = 3}},
-    {"policy", {[TOUCH] = 10, [COLD] = 2, [DELIVER] = 4, [DRAIN] = 4}},
+    {"policy", {[TOUCH] = 10, [COLD] = 2, [LOOK] = 4, [ADOPT] = 4, [DELIVER] = 4, [DRAIN] = 4}},
 };
 
 const char *scene_name(unsigned which)
@@ -91,6 +91,8 @@ static struct scene alone(enum kind kind, enum filling filling, unsigned sites, 
             [OPEN] = {OPEN, {sites, keys}},
             [PUT] = {PUT, {0, at % keys, at}},
             [GET] = {GET, {at % sites, (at * 7) % keys}},
+            [LOOK] = {LOOK, {at % sites, (at * 7) % keys}},
+            [ADOPT] = {ADOPT, {at % sites, (at * 7) % keys}},
             [DELIVER] = {DELIVER, {sites - 1, 0}},
             [DRAIN] = {DRAIN, {at % sites, FC_ENOUGH}},
             [TOUCH] = {TOUCH, {0, at % keys, at, at % 4, 1}},

@@ -24,6 +24,7 @@ extern const char *const filling_names[FILLINGS];
 /* Makes the tables to start from, and says how many there are. */
 unsigned make_starts(uint8_t (*tables)[FC_TABLE_BYTES], enum filling filling, unsigned sites, unsigned keys);
 
+/* What its adopts name is for the caller to say. */
 struct scene make_scene(unsigned which, enum filling filling, unsigned sites, unsigned keys);
 
 #endif

@@ -100,7 +100,7 @@ static bool fooled(const unsigned *value)
 static void look(uint8_t *table, unsigned *value)
 {
     for (unsigned key = 0; key < KEY_COUNT; key++) {
-        must(fc_get(FAR, key, table, FC_TABLE_BYTES, reply, sizeof reply), "a look");
+        must(fc_look(FAR, key, table, FC_TABLE_BYTES, reply, sizeof reply), "a look");
         value[key] = fc_read(reply).value;
     }
 }

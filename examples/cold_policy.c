@@ -1,40 +1,54 @@
 /*
- * A policy for a month. Each of four sites holds twelve files, and people read some of them. Every
- * night a backup scan opens every file. Every hour each site asks its cold list, and moves those of
- * its files that nobody has read for three days to the slow tier.
+ * A policy for a month. There are twelve documents, and each of four sites holds a copy of each as a
+ * file; people read some of them. Every night a backup scan opens every file. Every hour each site
+ * asks its cold list and looks at all records. When the links have run, it moves those of its files
+ * that nobody has read for three days to the slow tier: or to tape, if the document's first copy, at
+ * its home site, has left the fast tier too. So a move rests on two records. The policy adopts these
+ * two and no other, and looks again if one of them has changed.
  *
  * Here the scan touches as FC_BY_SCAN and the policy as FC_BY_MIGRATION, which keep the hour of the
- * last use. Beside it runs the same month the old way, in which a scan writes the hour now. Links
+ * last use. Beside it runs the same month the old way, in which a scan writes the hour now; and the
+ * same month with a policy that gets every record, so that its moves depend on all of them. Links
  * carry the touches from site to site in any order, some of them a day late, and the count of hours
  * runs round on the seventeenth day.
  *
  * Fails if a list here ever names a file that was read within the three days, or leaves out one that
- * was not, as far as its site has heard; or if a site keeps one on the fast tier for the scan's sake.
+ * was not, as far as its site has heard; if a site keeps one on the fast tier for the scan's sake; if a
+ * site hears of a move before the record of the first copy that it rests on; or if the moves wait for
+ * as many sites as in the month in which every record is got.
  */
 #include "forkcanyon.h"
 
 #include <stdbool.h>
 #include <stdio.h>
 #include <stdlib.h>
+#include <string.h>
 
 enum { SITE_COUNT = 4, FILE_COUNT = 48, LINK_COUNT = SITE_COUNT * (SITE_COUNT - 1) };
 enum { DAY = 24, WEEK = 7 * DAY, MONTH = 30 * DAY, THRESHOLD = 3 * DAY, FIRST_HOUR = 65536 - 400 };
-enum { FAST, SLOW };
+enum { FAST, SLOW, TAPE };
 enum { NEVER = -1, MOST_PUTS = 4096 };
+enum { HERE, OLD_SCANS, ALL_GOT, MONTHS };
 
 /* One month. What people did is kept beside the table, to hold the lists against. */
 struct month {
     const char *name;
-    bool scan_writes_now;
+    bool scan_writes_now, policy_gets;
     uint8_t table[FC_TABLE_BYTES];
-    int last_read[FILE_COUNT];         /* by anybody */
-    int heard[SITE_COUNT][FILE_COUNT]; /* the last read that a site has heard of */
+    int last_read[FILE_COUNT];              /* by anybody */
+    int heard[SITE_COUNT][FILE_COUNT];      /* the last read that a site has heard of */
+    unsigned given[SITE_COUNT][SITE_COUNT]; /* the clock of the last delivery to a site from an origin */
     struct news {
         int made, last_read;
+        struct fc_answer rests_on; /* a move: the record of its first copy; clock 0: none */
     } news[SITE_COUNT][MOST_PUTS]; /* what each put of a site tells of, and its hour */
+    bool listed[SITE_COUNT][FILE_COUNT]; /* what a site's policy was told this hour, and what it saw */
+    struct fc_answer seen[SITE_COUNT][FILE_COUNT];
     unsigned lists, in_use, left_out, kept_hours;
-    unsigned deliveries, waits;
+    unsigned deliveries, waits, early, seen_again;
     int latest;
+    /* Over all moves, and for each over the sites it goes to: how many others these have to hear of first. */
+    unsigned moves_sent, waited_for, most_waited_for;
 };
 
 static uint8_t reply[FC_REPLY_BYTES];
@@ -63,6 +77,13 @@ static unsigned holder(unsigned file)
     return file % SITE_COUNT;
 }
 
+/* The copy of the same document at its home site. It never goes to tape. */
+static unsigned first_copy(unsigned file)
+{
+    unsigned document = file / SITE_COUNT, home = document % SITE_COUNT;
+    return document * SITE_COUNT + home;
+}
+
 static uint16_t on_the_clock(int hour)
 {
     return (uint16_t)(FIRST_HOUR + hour);
@@ -84,6 +105,8 @@ static bool deliver(struct month *month, unsigned site, unsigned origin, int hou
     struct fc_answer update = fc_read(reply);
     struct news news = month->news[origin][update.clock];
     month->heard[site][update.key] = news.last_read;
+    month->given[site][origin] = update.clock;
+    month->early += news.rests_on.site != site && news.rests_on.clock > month->given[site][news.rests_on.site];
     month->deliveries++;
     if (hour - news.made > month->latest)
         month->latest = hour - news.made;
@@ -111,7 +134,8 @@ static uint32_t try_touch(struct month *month, unsigned file, int hour, unsigned
     return fc_touch(holder(file), file, now, toucher, tier, month->table, sizeof month->table, reply, sizeof reply);
 }
 
-static void touch(struct month *month, unsigned file, int hour, unsigned toucher, unsigned tier)
+/* The clock of the put. */
+static unsigned touch(struct month *month, unsigned file, int hour, unsigned toucher, unsigned tier)
 {
     uint32_t code = try_touch(month, file, hour, toucher, tier);
     if (code == FC_ROOM) {
@@ -121,8 +145,9 @@ static void touch(struct month *month, unsigned file, int hour, unsigned toucher
     must(code == FC_OK, "a touch was refused");
     unsigned clock = fc_read(reply).clock;
     must(clock < MOST_PUTS, "too many puts for one month");
-    month->news[holder(file)][clock] = (struct news){hour, month->last_read[file]};
+    month->news[holder(file)][clock] = (struct news){.made = hour, .last_read = month->last_read[file]};
     month->heard[holder(file)][file] = month->last_read[file];
+    return clock;
 }
 
 /* Whoever reads a file brings it back to the fast tier. */
@@ -134,7 +159,7 @@ static void read_file(struct month *month, unsigned file, int hour)
 
 static struct fc_answer record_of(struct month *month, unsigned file)
 {
-    must(fc_get(holder(file), file, month->table, sizeof month->table, reply, sizeof reply) == FC_OK, "no get");
+    must(fc_look(holder(file), file, month->table, sizeof month->table, reply, sizeof reply) == FC_OK, "no look");
     return fc_read(reply);
 }
 
@@ -150,8 +175,81 @@ static void scan(struct month *month, int hour)
     }
 }
 
-/* Asks the list of a site, holds it against what the site has heard, and moves what the site holds. */
-static void apply_policy(struct month *month, unsigned site, int hour)
+/* A delivery on a copy of the table, and before it all that it waits for: notes the sites that these are of. */
+static struct fc_answer bring(uint8_t *copy, unsigned site, unsigned origin, uint32_t *sites)
+{
+    while (fc_deliver(site, origin, copy, FC_TABLE_BYTES, reply, sizeof reply) == FC_WAITS) {
+        *sites |= fc_read(reply).value;
+        bring(copy, site, fc_read(reply).site, sites);
+    }
+    must(reply[0] == FC_OK, "a delivery was refused");
+    return fc_read(reply);
+}
+
+/* Counts the sites that each other site has to hear of before it can take the put. */
+static void count_waits(struct month *month, unsigned origin, unsigned clock)
+{
+    static uint8_t copy[FC_TABLE_BYTES];
+    for (unsigned site = 0; site < SITE_COUNT; site++) {
+        uint32_t sites = 0;
+        unsigned count = 0;
+        if (site == origin)
+            continue;
+        memcpy(copy, month->table, sizeof copy);
+        while (bring(copy, site, origin, &sites).clock < clock)
+            ;
+        for (unsigned other = 0; other < SITE_COUNT; other++)
+            count += sites >> other & 1;
+        month->moves_sent++;
+        month->waited_for += count;
+        if (count > month->most_waited_for)
+            month->most_waited_for = count;
+    }
+}
+
+/* What the policy sees of a file at a site: by a look, or, as every list once did, by a get. */
+static struct fc_answer see(struct month *month, unsigned site, unsigned file)
+{
+    uint32_t code = (month->policy_gets ? fc_get : fc_look)(site, file, month->table, sizeof month->table, reply,
+                                                            sizeof reply);
+    must(code == FC_OK, "no look");
+    return fc_read(reply);
+}
+
+/* False if the site no longer holds what was seen. */
+static bool adopt(struct month *month, unsigned site, struct fc_answer seen)
+{
+    uint32_t code =
+        fc_adopt(site, seen.key, seen.site, seen.clock, month->table, sizeof month->table, reply, sizeof reply);
+    must(code == FC_OK || code == FC_CHANGED, "an adopt was refused");
+    struct fc_answer found = fc_read(reply);
+    bool same = found.site == seen.site && found.clock == seen.clock && found.value == seen.value;
+    must(code == FC_CHANGED || same, "an adopt of another record");
+    return code == FC_OK;
+}
+
+/* Moves a cold file where it belongs by what was seen, or, if that has changed, by what is there now. */
+static void move(struct month *month, unsigned file, int hour)
+{
+    unsigned site = holder(file), first = first_copy(file);
+    struct fc_answer *own = &month->seen[site][file], *home = &month->seen[site][first];
+    for (;; month->seen_again++) {
+        unsigned tier = file != first && home->clock > 0 && fc_tier(home->value) != FAST ? TAPE : SLOW;
+        if (fc_tier(own->value) >= tier)
+            return;
+        if (adopt(month, site, *own) && adopt(month, site, *home)) {
+            unsigned clock = touch(month, file, hour, FC_BY_MIGRATION, tier);
+            month->news[site][clock].rests_on = *home;
+            count_waits(month, site, clock);
+            return;
+        }
+        *own = see(month, site, file);
+        *home = see(month, site, first);
+    }
+}
+
+/* Asks the list of a site, holds it against what the site has heard, and looks at every record. */
+static void ask_list(struct month *month, unsigned site, int hour)
 {
     uint8_t list[FC_LIST_BYTES];
     must(fc_cold(site, on_the_clock(hour), THRESHOLD, month->table, sizeof month->table, list, sizeof list, reply,
@@ -161,12 +259,11 @@ static void apply_policy(struct month *month, unsigned site, int hour)
     month->lists++;
     unsigned at = 0;
     for (unsigned file = 0; file < FILE_COUNT; file++) {
-        bool listed = at < answer.key && list[at] == file;
+        bool listed = month->listed[site][file] = at < answer.key && list[at] == file;
         at += listed;
         month->in_use += listed && !unused(month->heard[site][file], hour);
         month->left_out += !listed && unused(month->heard[site][file], hour);
-        if (listed && holder(file) == site && fc_tier(record_of(month, file).value) == FAST)
-            touch(month, file, hour, FC_BY_MIGRATION, SLOW);
+        month->seen[site][file] = see(month, site, file);
     }
     must(at == answer.key, "a list that does not ascend");
 }
@@ -226,7 +323,11 @@ static void plan_links(struct run *runs, bool *late, int hour)
     }
 }
 
-static struct month months[] = {{.name = "Forkcanyon"}, {.name = "the old way", .scan_writes_now = true}};
+static struct month months[MONTHS] = {
+    [HERE] = {.name = "Forkcanyon"},
+    [OLD_SCANS] = {.name = "the old way", .scan_writes_now = true},
+    [ALL_GOT] = {.name = "all got", .policy_gets = true},
+};
 
 static void one_hour(struct month *month, const bool *reads, const struct run *runs, int hour)
 {
@@ -235,20 +336,24 @@ static void one_hour(struct month *month, const bool *reads, const struct run *r
             read_file(month, file, hour);
     if (hour % DAY == 1)
         scan(month, hour);
+    for (unsigned site = 0; site < SITE_COUNT; site++)
+        ask_list(month, site, hour);
     for (const struct run *run = runs; run < runs + LINK_COUNT; run++)
         for (unsigned times = 0; times < run->most; times++)
             deliver(month, run->site, run->origin, hour);
-    for (unsigned site = 0; site < SITE_COUNT; site++)
-        apply_policy(month, site, hour);
+    for (unsigned file = 0; file < FILE_COUNT; file++)
+        if (month->listed[holder(file)][file])
+            move(month, file, hour);
     month->kept_hours += count_fast(month, hour).unused;
 }
 
 static void say_week(int hour)
 {
-    struct kept here = count_fast(&months[0], hour), old = count_fast(&months[1], hour);
+    struct kept here = count_fast(&months[HERE], hour), old = count_fast(&months[OLD_SCANS], hour);
+    const int *last_read = months[HERE].last_read;
     unsigned used = 0;
     for (unsigned file = 0; file < FILE_COUNT; file++)
-        used += months[0].last_read[file] != NEVER && !unused(months[0].last_read[file], hour);
+        used += last_read[file] != NEVER && !unused(last_read[file], hour);
     printf("  %3d %12u %14u %14u %15u %14u\n", (hour + 1) / DAY, used, here.fast, here.unused, old.fast, old.unused);
 }
 
@@ -270,10 +375,31 @@ static void say_month(const struct month *month)
     printf("  %-12s %u file-days on the fast tier for the scan's sake\n", "", month->kept_hours / DAY);
 }
 
+static void say_moves(const struct month *month, const char *policy)
+{
+    double mean = month->moves_sent > 0 ? (double)month->waited_for / month->moves_sent : 0;
+    printf("  %-42s %4.2f on average, at most %u\n", policy, mean, month->most_waited_for);
+}
+
+/* Whether the moves of one month wait for fewer sites than those of the other, on average and at most. */
+static bool waits_for_fewer(const struct month *one, const struct month *other)
+{
+    return one->most_waited_for <= other->most_waited_for &&
+           (uint64_t)one->waited_for * other->moves_sent < (uint64_t)other->waited_for * one->moves_sent;
+}
+
+static bool fails(bool wrong, const char *what)
+{
+    if (wrong)
+        printf("policy: FAILED: %s\n", what);
+    return wrong;
+}
+
 int main(void)
 {
-    begin(&months[0]);
-    begin(&months[1]);
+    const struct month *here = &months[HERE], *old = &months[OLD_SCANS], *got = &months[ALL_GOT];
+    for (struct month *month = months; month < months + MONTHS; month++)
+        begin(month);
     printf("%d files at %d sites, scanned every night. A file is in use for %d hours after it was last read.\n",
            FILE_COUNT, SITE_COUNT, THRESHOLD);
     puts("How many are on the fast tier, and how many of these for the scan's sake:\n");
@@ -285,21 +411,25 @@ int main(void)
         for (unsigned file = 0; file < FILE_COUNT; file++)
             reads[file] = is_read(file, hour);
         plan_links(runs, late, hour);
-        for (struct month *month = months; month < months + 2; month++)
+        for (struct month *month = months; month < months + MONTHS; month++)
             one_hour(month, reads, runs, hour);
         if ((hour + 1) % WEEK == 0 || hour + 1 == MONTH)
             say_week(hour);
     }
     puts("\nOver the month, each list held against what its site had heard:");
-    say_month(&months[0]);
-    say_month(&months[1]);
-    printf("  links        %u deliveries, up to %d hours late; %u tries had to wait for a cause\n",
-           months[0].deliveries, months[0].latest, months[0].waits);
-    if (months[0].in_use > 0)
-        puts("policy: FAILED: a list names a file that people read within the threshold");
-    if (months[0].left_out > 0 || months[0].kept_hours > 0)
-        puts("policy: FAILED: a file is left out, or kept, for the scan's sake");
-    if (months[1].kept_hours == 0)
-        puts("policy: FAILED: the old way kept nothing either, so this shows nothing");
-    return months[0].in_use > 0 || months[0].left_out > 0 || months[0].kept_hours > 0 || months[1].kept_hours == 0;
+    say_month(here);
+    say_month(old);
+    printf("  links        %u deliveries, up to %d hours late; %u tries had to wait for a cause\n", here->deliveries,
+           here->latest, here->waits);
+    puts("\nHow many other sites a site has to hear of before it can take a move, if the policy");
+    say_moves(here, "looks at all and adopts what it acts on");
+    say_moves(got, "gets all");
+    printf("%u times a record had changed between its look and its adopt, and was looked at again.\n", here->seen_again);
+
+    bool failed = fails(here->in_use > 0, "a list names a file that people read within the threshold");
+    failed |= fails(here->left_out > 0 || here->kept_hours > 0, "a file is left out, or kept, for the scan's sake");
+    failed |= fails(here->early > 0, "a site hears of a move before what it rests on");
+    failed |= fails(!waits_for_fewer(here, got), "moves wait for as many sites as if every record were got");
+    failed |= fails(here->seen_again == 0, "no record has changed before it was adopted, so this shows nothing");
+    return fails(old->kept_hours == 0, "the old way kept nothing either, so this shows nothing") || failed;
 }

@@ -7,8 +7,9 @@
  * of each origin each site has applied, what each site depends on, and the updates still under way.
  * A put at a site is stored there at once and becomes an update for every other site. A delivery
  * carries the next update of one origin to one site, and is accepted only when the site has applied
- * everything that update depends on: all that its origin had put or got before. So whoever reads a
- * value at a site also finds there what the writer of that value had seen, or what was put over it.
+ * everything that update depends on: all that its origin had put, got or adopted before. So whoever
+ * reads a value at a site also finds there what the writer of that value had put, got or adopted
+ * before it, or what was put over that.
  *
  * The library keeps nothing between calls: no heap, no globals, no files, no clock. What there is to
  * remember is in the table, and the table may be copied, moved or saved between calls like any bytes.
@@ -21,6 +22,9 @@
  *     fc_put(0, 1, 7, table, sizeof table, reply, sizeof reply);
  *     fc_deliver(1, 0, table, sizeof table, reply, sizeof reply);
  *     if (fc_get(1, 1, table, sizeof table, reply, sizeof reply) == FC_OK) use(fc_read(reply).value);
+ *
+ * fc_get reads, and later puts of its site depend on what it read. Where many keys are read and few
+ * acted on, fc_look reads and no more, and fc_adopt then takes on the dependence for those few.
  *
  * A value may be anything to fc_put and fc_get. fc_touch writes touch records, values that say when a
  * file was last used, and fc_cold lists the keys whose records are old; see TOUCH RECORDS below.
@@ -45,7 +49,7 @@
  *   that applies too.
  * - Where several refusals apply, the one that is asked first is answered, see fc_code.
  * - Sites, origins and keys count from 0. A number too large for its place in the table, up to
- *   2^64 - 1, is refused as out of range; none is ever cut short.
+ *   2^64 - 1, is refused as out of range, a clock as one that no entry has; none is ever cut short.
  */
 #ifndef FORKCANYON_H
 #define FORKCANYON_H
@@ -69,8 +73,8 @@ extern "C" {
 /*
  * The codes, by number. They are asked in this order, each call leaving out those it has not:
  *
- *     FC_UNUSED, FC_RANGE, FC_SIZE, FC_UNSOUND, FC_COUNTS, FC_SITE, FC_SAME, FC_KEY, FC_RECORD,
- *     FC_SPENT, FC_ROOM, FC_NONE, FC_WAITS, FC_BUDGET
+ *     FC_UNUSED, FC_RANGE, FC_SIZE, FC_UNSOUND, FC_COUNTS, FC_SITE, FC_SAME, FC_KEY, FC_CHANGED,
+ *     FC_RECORD, FC_SPENT, FC_ROOM, FC_NONE, FC_WAITS, FC_BUDGET
  *
  * applied(s, o) is how many updates of origin o site s has applied; applied(s, s) is how many puts s
  * has made. n and k are the table's counts.
@@ -90,7 +94,8 @@ enum fc_code {
     FC_BUDGET = 11, /* fc_drain: the budget was spent with a try due; what was delivered stays */
     FC_UNUSED = 12, /* only in a schedule: a step with a field set that it does not use */
     FC_RECORD = 13, /* fc_touch, by the scan or by migration: the key has no touch record, so no hour to keep */
-    FC_RANGE = 14   /* fc_cold, fc_touch: a number of the policy's, or list_len, is out of range */
+    FC_RANGE = 14,  /* fc_cold, fc_touch: a number of the policy's, or list_len, is out of range */
+    FC_CHANGED = 15 /* fc_adopt: the site does not hold the named put under key, or no longer; look again */
 };
 
 /*
@@ -115,7 +120,7 @@ uint32_t fc_open(uint64_t sites, uint64_t keys,
  * Writes value under key at site, and makes it the site's next update.
  *
  * FC_OK: the reply holds key, site, the put's clock (1 for a site's first put, then 2, ..) and value.
- * The update depends on all that the site had put or got before.
+ * The update depends on all that the site had put, got or adopted before.
  * Refusals: FC_SIZE, FC_UNSOUND, FC_SITE, FC_KEY, FC_SPENT, FC_ROOM.
  */
 uint32_t fc_put(uint64_t site, uint64_t key, uint32_t value,
@@ -123,7 +128,8 @@ uint32_t fc_put(uint64_t site, uint64_t key, uint32_t value,
 
 /*
  * Reads key at site. Not a pure read: later puts of the site depend on the put that was read and on
- * all that one depended on, so the table's dependency row of the site may change.
+ * all that one depended on, so the table's dependency row of the site may change. It is fc_look and, at
+ * once, fc_adopt of the site and clock that fc_look answered: the same reply, bytes and refusals.
  *
  * FC_OK: the reply holds key, and the origin (as site), clock and value of the put it reads. For a
  * key never written at this site these are 0 and the table keeps all bytes; clock 0 is the mark,
@@ -134,10 +140,39 @@ uint32_t fc_get(uint64_t site, uint64_t key,
                 uint8_t *table, size_t table_len, uint8_t *reply, size_t reply_len);
 
 /*
+ * Reads key at site and changes no byte of the table: later puts of the site do not depend on what was
+ * read, unless it is adopted.
+ *
+ * FC_OK: the reply is that of fc_get.
+ * Refusals: FC_SIZE, FC_UNSOUND, FC_SITE, FC_KEY.
+ *
+ * Get what you act on. To choose among many keys, look at all of them and adopt those that the choice
+ * rests on, before the put that comes of it: after 64 gets every put of the site waits, at every other
+ * site, for all that was read. But what was only looked at is not waited for: another site may hear of
+ * the put and not yet of what you saw.
+ */
+uint32_t fc_look(uint64_t site, uint64_t key,
+                 uint8_t *table, size_t table_len, uint8_t *reply, size_t reply_len);
+
+/*
+ * Takes on the dependence that fc_get would, if the site still holds under key the put of this origin
+ * and clock: those that fc_look answered, as site and clock. Later puts of the site depend on that
+ * put and on all that one depended on.
+ *
+ * FC_OK: the reply is that of fc_get. A key never written at this site has origin 0 and clock 0;
+ * adopting these keeps all bytes of the table.
+ * FC_CHANGED: the site holds another put under key, or none. A put, a touch, a delivery or a drain
+ * has come between, or no entry can have that clock. Look again, and choose by what is there now.
+ * Refusals: FC_SIZE, FC_UNSOUND, FC_SITE (of site or origin), FC_KEY, FC_CHANGED.
+ */
+uint32_t fc_adopt(uint64_t site, uint64_t key, uint64_t origin, uint64_t clock,
+                  uint8_t *table, size_t table_len, uint8_t *reply, size_t reply_len);
+
+/*
  * Applies at site the next update of origin, the one with clock applied(site, origin) + 1.
  *
  * FC_OK: the reply holds the update's key, origin (as site), clock and value, and the site now holds
- * it. What the site depends on does not change until it gets the key.
+ * it. What the site depends on does not change until it gets or adopts the key.
  * FC_WAITS: the reply's value says all sites of which a cause is missing, bit m (worth 2 to the
  * power m) for site m: ask fc_waits_for(). 1 is site 0 alone, 6 the sites 1 and 2, 128 site 7. The
  * reply's site and clock name the lowest of them, and the clock up to which its updates must be applied
@@ -145,7 +180,7 @@ uint32_t fc_get(uint64_t site, uint64_t key,
  * always be done in a table that was opened and then changed only by these calls. In any other one,
  * sound as it may be, a named site can be at or above n: then nothing will ever bring what the
  * update waits for, and its origin's later updates wait behind it until FC_ROOM stops the puts
- * there. Go back to a copy from before the damage, or open a new table and put into it what fc_get
+ * there. Go back to a copy from before the damage, or open a new table and put into it what fc_look
  * still reads in this one.
  * Refusals: FC_SIZE, FC_UNSOUND, FC_SITE, FC_SAME, FC_NONE, FC_WAITS.
  */
@@ -214,7 +249,8 @@ uint32_t fc_touch(uint64_t site, uint64_t key, uint64_t now, uint64_t toucher, u
  * FC_RANGE: threshold is not 1 to 32,767, now is above 65,535, or list_len is not FC_LIST_BYTES.
  * Refusals: FC_RANGE, FC_SIZE, FC_UNSOUND, FC_SITE; the list then keeps its bytes.
  *
- * It gets every key, as fc_get does: later puts of the site depend on all that it has read.
+ * It looks at every key, as fc_look does, and changes no byte of the table: later puts of the site do
+ * not depend on what it has read. fc_touch gets the key that it touches; adopt what else you act on.
  */
 uint32_t fc_cold(uint64_t site, uint64_t now, uint64_t threshold,
                  uint8_t *table, size_t table_len, uint8_t *list, size_t list_len,

@@ -19,7 +19,7 @@ class Line(NamedTuple):
     value: int
 
 
-# Of what a schedule can answer: it has no touch and no cold list, so neither 13 nor 14.
+# Of what a schedule can answer: it has no touch, no cold list and no adopt, so none of 13, 14 and 15.
 REFUSALS = {
     3: "sites or keys out of range",
     4: "no such site",

@@ -7,6 +7,8 @@
     drain 2             site 2
     drain 2 origin=1    a field that the step does not use: refused with 12
     bytes 48 01         last of all: bytes of a step or header that was cut, or that are not read
+
+A schedule has document 01's four steps and no other: no look and no adopt, no touch and no cold list.
 """
 
 import re

@@ -2,14 +2,19 @@
 
 #include <stdlib.h>
 
-two_numbers twin_open, twin_get, twin_deliver, twin_drain;
+two_numbers twin_open, twin_get, twin_look, twin_deliver, twin_drain;
 put_call twin_put;
+four_numbers twin_adopt;
 five_numbers twin_touch;
 three_buffers twin_cold;
 
-const struct library forkcanyon = {"forkcanyon", fc_open, fc_get, fc_deliver, fc_drain, fc_put, fc_touch, fc_cold};
-const struct library twin = {"twin", twin_open, twin_get, twin_deliver, twin_drain, twin_put, twin_touch, twin_cold};
-const char *const kind_names[KINDS] = {"open", "put", "get", "deliver", "drain", "touch", "cold"};
+#define LIBRARY(title, in) \
+    {.name = title, .open = in##_open, .put = in##_put, .get = in##_get, .look = in##_look, .adopt = in##_adopt, \
+     .deliver = in##_deliver, .drain = in##_drain, .touch = in##_touch, .cold = in##_cold}
+
+const struct library forkcanyon = LIBRARY("forkcanyon", fc);
+const struct library twin = LIBRARY("twin", twin);
+const char *const kind_names[KINDS] = {"open", "put", "get", "look", "adopt", "deliver", "drain", "touch", "cold"};
 
 uint32_t make_call(const struct library *library, const struct call *call, const struct buffers *lent)
 {
@@ -20,6 +25,9 @@ uint32_t make_call(const struct library *library, const struct call *call, const
     case PUT:
         return library->put(number[0], number[1], (uint32_t)number[2], table.bytes, table.length, reply.bytes,
                             reply.length);
+    case ADOPT:
+        return library->adopt(number[0], number[1], number[2], number[3], table.bytes, table.length, reply.bytes,
+                              reply.length);
     case TOUCH:
         return library->touch(number[0], number[1], number[2], number[3], number[4], table.bytes, table.length,
                               reply.bytes, reply.length);
@@ -31,6 +39,9 @@ uint32_t make_call(const struct library *library, const struct call *call, const
         break;
     case GET:
         chosen = library->get;
+        break;
+    case LOOK:
+        chosen = library->look;
         break;
     case DELIVER:
         chosen = library->deliver;

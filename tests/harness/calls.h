@@ -4,7 +4,7 @@
 
 #include "forkcanyon.h"
 
-enum kind { OPEN, PUT, GET, DELIVER, DRAIN, TOUCH, COLD, KINDS };
+enum kind { OPEN, PUT, GET, LOOK, ADOPT, DELIVER, DRAIN, TOUCH, COLD, KINDS };
 enum { MOST_NUMBERS = 5 };
 
 /* The call's numbers in the order of its arguments; a put's third is its value, which has 32 bits. */
@@ -25,13 +25,15 @@ struct buffers {
 
 typedef uint32_t two_numbers(uint64_t, uint64_t, uint8_t *, size_t, uint8_t *, size_t);
 typedef uint32_t put_call(uint64_t, uint64_t, uint32_t, uint8_t *, size_t, uint8_t *, size_t);
+typedef uint32_t four_numbers(uint64_t, uint64_t, uint64_t, uint64_t, uint8_t *, size_t, uint8_t *, size_t);
 typedef uint32_t five_numbers(uint64_t, uint64_t, uint64_t, uint64_t, uint64_t, uint8_t *, size_t, uint8_t *, size_t);
 typedef uint32_t three_buffers(uint64_t, uint64_t, uint64_t, uint8_t *, size_t, uint8_t *, size_t, uint8_t *, size_t);
 
 struct library {
     const char *name;
-    two_numbers *open, *get, *deliver, *drain;
+    two_numbers *open, *get, *look, *deliver, *drain;
     put_call *put;
+    four_numbers *adopt;
     five_numbers *touch;
     three_buffers *cold;
 };

@@ -1,5 +1,6 @@
 #include "traffic.h"
 
+#include "tables.h"
 #include "touches.h"
 
 /* Any size of number, some of which would look small if they were cut to 8, 16 or 32 bits. */
@@ -48,6 +49,7 @@ struct traffic some_traffic(struct rng *rng, unsigned sites, unsigned keys, unsi
     struct traffic traffic = {.sites = sites, .keys = keys, .wild = wild};
     for (int kind = PUT; kind < KINDS; kind++)
         traffic.weights[kind] = 1 + (unsigned)rng_below(rng, 8);
+    traffic.weights[DELIVER] += 4; /* only among many does one wait for three sites or more */
     traffic.weights[DRAIN] = (unsigned)rng_below(rng, 2);
     traffic.slow = rng_bits(rng) & rng_bits(rng);
     return traffic;
@@ -63,6 +65,44 @@ static uint64_t origin_for(struct rng *rng, const struct traffic *traffic, uint6
         origin = name(rng, traffic, traffic->sites);
     }
     return origin;
+}
+
+void name_held(struct call *adopt, const uint8_t *table)
+{
+    size_t entry = entry_at(adopt->numbers[0], adopt->numbers[1]);
+    adopt->numbers[2] = table[entry + RECORD_NAME];
+    adopt->numbers[3] = clock_at(table, entry + RECORD_CLOCK);
+}
+
+/* The origin and clock of an adopt, mostly those that a look would answer; else one of them is another, or is no more
+   than the same when cut to 8, 16 or 32 bits. */
+static void name_pair(struct rng *rng, const struct traffic *traffic, struct call *adopt)
+{
+    static const uint64_t sizes[] = {1ull << 8, 1ull << 16, 1ull << 32, 1ull << 63};
+    uint64_t *number = adopt->numbers;
+    number[2] = name(rng, traffic, traffic->sites);
+    number[3] = rng_below(rng, 4);
+    if (traffic->table != NULL && number[0] < FC_SITES && number[1] < FC_KEYS)
+        name_held(adopt, traffic->table);
+    switch (rng_below(rng, 12)) {
+    case 0:
+        number[2] = name(rng, traffic, traffic->sites);
+        break;
+    case 1:
+        number[2] += sizes[rng_below(rng, 4)];
+        break;
+    case 2:
+        number[3] += 1 - 2 * rng_below(rng, 2);
+        break;
+    case 3:
+        number[3] += sizes[rng_below(rng, 4)];
+        break;
+    case 4:
+        number[3] = rng_chance(rng, 50) ? 0 : wild_number(rng);
+        break;
+    default:
+        break;
+    }
 }
 
 struct call some_call(struct rng *rng, const struct traffic *traffic)
@@ -96,6 +136,10 @@ struct call some_call(struct rng *rng, const struct traffic *traffic)
         number[2] = hour(rng, traffic);
         number[3] = name(rng, traffic, 4);
         number[4] = name(rng, traffic, 4);
+        break;
+    case ADOPT:
+        number[1] = name(rng, traffic, traffic->keys);
+        name_pair(rng, traffic, &call);
         break;
     default:
         number[1] = name(rng, traffic, traffic->keys);

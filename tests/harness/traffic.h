@@ -11,9 +11,13 @@ struct traffic {
     unsigned weights[KINDS];
     uint64_t slow; /* bit 8 * site + origin */
     unsigned wild; /* percent of numbers that may be anything */
+    const uint8_t *table; /* where an adopt finds the pair it names; NULL: nowhere */
 };
 
 struct traffic some_traffic(struct rng *rng, unsigned sites, unsigned keys, unsigned wild);
 struct call some_call(struct rng *rng, const struct traffic *traffic);
+
+/* Gives an adopt the origin and clock that a look at its site and key would answer; both are below 8 and 64. */
+void name_held(struct call *adopt, const uint8_t *table);
 
 #endif

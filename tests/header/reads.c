@@ -32,7 +32,8 @@ static void expect(const char *what, unsigned long found, unsigned long wanted)
     EACH(FC_BUDGET, 11) \
     EACH(FC_UNUSED, 12) \
     EACH(FC_RECORD, 13) \
-    EACH(FC_RANGE, 14)
+    EACH(FC_RANGE, 14) \
+    EACH(FC_CHANGED, 15)
 
 /* Document 02's touchers. */
 #define TOUCHERS(EACH) \

@@ -124,6 +124,7 @@ static struct traffic traffic_of_held(unsigned wild)
 {
     struct traffic traffic = some_traffic(&rng, held[0] ? held[0] : 1, held[1] ? held[1] : 1, wild);
     traffic.weights[OPEN] = rng_chance(&rng, 20);
+    traffic.table = held;
     return traffic;
 }
 
@@ -172,6 +173,8 @@ static void wrong_lengths(void)
     traffic.weights[DRAIN] = 5;
     for (int times = 0; times < 5; times++) {
         struct lengths length = {some_length(FC_TABLE_BYTES), some_length(FC_LIST_BYTES), some_length(FC_REPLY_BYTES)};
+        if (rng_chance(&rng, 50))
+            length.list = FC_LIST_BYTES; /* else a cold list of 14 hides the other lengths */
         compare(some_call(&rng, &traffic), length);
     }
 }
@@ -208,6 +211,11 @@ int main(int argc, char **argv)
     room_build(&table_room);
     room_build(&list_room);
     room_build(&reply_room);
+    const char *what = broken_by_a_look_or_an_adopt(&met.threes);
+    if (what != NULL) {
+        printf("host: FAILED: %s\n", what);
+        return 1;
+    }
     while (calls < enough || time(NULL) < until)
         round_of_calls();
     met_print(&met);

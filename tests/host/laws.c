@@ -54,24 +54,6 @@ bool out_of_range(const struct call *call, size_t list_len)
     }
 }
 
-/* Whether the call has left the table as gets of every key at the site would. */
-static bool got_every_key(size_t site, const uint8_t *before, const uint8_t *after)
-{
-    uint8_t table[FC_TABLE_BYTES];
-    memcpy(table, before, sizeof table);
-    for (size_t key = 0; key < before[1]; key++) {
-        size_t entry = entry_at(site, key);
-        for (size_t column = 0; clock_at(before, entry + RECORD_CLOCK) > 0 && column < FC_SITES; column++) {
-            size_t at = depends_at(site, column), listed = entry + RECORD_VECTOR + 2 * column;
-            if (clock_at(before, listed) > clock_at(table, at))
-                memcpy(table + at, before + listed, 2);
-            if (column == before[entry + RECORD_NAME] && clock_at(before, entry + RECORD_CLOCK) > clock_at(table, at))
-                memcpy(table + at, before + entry + RECORD_CLOCK, 2);
-        }
-    }
-    return memcmp(table, after, sizeof table) == 0;
-}
-
 static const char *broken_by_cold(const struct call *call, const uint8_t *before, struct outcome after)
 {
     size_t site = call->numbers[0];
@@ -95,7 +77,7 @@ static const char *broken_by_cold(const struct call *call, const uint8_t *before
         return "the list is the cold keys, ascending, and zeros";
     if (answer.key != listed || answer.site != ahead || answer.clock != malformed || answer.value != 0)
         return "the answer counts keys listed, clocks ahead and malformed values";
-    return got_every_key(site, before, after.table) ? NULL : "a cold list gets every key, and changes nothing else";
+    return memcmp(before, after.table, FC_TABLE_BYTES) == 0 ? NULL : "a cold list changes no byte of the table";
 }
 
 static const char *broken_by_touch(const struct call *call, const uint8_t *before, struct outcome after)
@@ -119,6 +101,97 @@ static const char *broken_by_touch(const struct call *call, const uint8_t *befor
         if (fc_hour(old) != fc_hour(new) || fc_is_touch(old) != fc_is_touch(new) ||
             (clock_at(before, at + RECORD_CLOCK) == 0) != (clock_at(after.table, at + RECORD_CLOCK) == 0))
             return "a touch by the scan or by migration changes no key's coldness at its site";
+    }
+    return NULL;
+}
+
+/* A call of the library on the table, and its reply. */
+static uint32_t answered(struct call call, uint8_t *table, uint8_t *reply)
+{
+    struct buffers lent = {.table = {table, FC_TABLE_BYTES}, .reply = {reply, FC_REPLY_BYTES}};
+    return make_call(&forkcanyon, &call, &lent);
+}
+
+/* Whether these calls, made on the table before, end with this answer and these bytes. */
+static bool ends_so(const struct call *calls, size_t count, const uint8_t *before, struct outcome after)
+{
+    uint8_t table[FC_TABLE_BYTES], reply[FC_REPLY_BYTES];
+    uint32_t code = 0;
+    memcpy(table, before, sizeof table);
+    for (size_t at = 0; at < count; at++)
+        code = answered(calls[at], table, reply);
+    return code == after.code && memcmp(reply, after.reply, sizeof reply) == 0 &&
+           memcmp(table, after.table, sizeof table) == 0;
+}
+
+/* Whatever it answers, refusals too. */
+static const char *broken_by_get(const struct call *call, const uint8_t *before, struct outcome after)
+{
+    uint64_t site = call->numbers[0], key = call->numbers[1];
+    struct fc_answer answer = fc_read(after.reply);
+    if (after.code == FC_OK && (memcmp(before, after.table, DEPENDS) != 0 ||
+                                memcmp(before + STORE, after.table + STORE, FC_TABLE_BYTES - STORE) != 0))
+        return "a get changes only what the site depends on";
+    const struct call both[] = {{LOOK, {site, key}}, {ADOPT, {site, key, answer.site, answer.clock}}};
+    return ends_so(both, 2, before, after) ? NULL : "a get is a look and the adopt of what it answered";
+}
+
+static const char *broken_by_look(const struct call *call, const uint8_t *before, struct outcome after)
+{
+    if (memcmp(before, after.table, FC_TABLE_BYTES) != 0)
+        return "a look changes nothing";
+    uint8_t table[FC_TABLE_BYTES], reply[FC_REPLY_BYTES];
+    memcpy(table, before, sizeof table);
+    answered((struct call){GET, {call->numbers[0], call->numbers[1]}}, table, reply);
+    return memcmp(reply, after.reply, sizeof reply) == 0 ? NULL : "a look answers as get";
+}
+
+static const char *broken_by_adopt(const struct call *call, const uint8_t *before, struct outcome after)
+{
+    const uint64_t *number = call->numbers;
+    bool named = number[0] < before[0] && number[2] < before[0];
+    if (after.code != FC_UNSOUND && named == (after.code == FC_SITE))
+        return "4 exactly when the site or the named origin is not below n, whatever the key and the entry are";
+    if (after.code != FC_OK && after.code != FC_CHANGED)
+        return NULL;
+    if (number[1] >= before[1])
+        return "15 is asked after 6";
+    size_t entry = entry_at(number[0], number[1]);
+    bool same = before[entry + RECORD_NAME] == number[2] && clock_at(before, entry + RECORD_CLOCK) == number[3];
+    if (same != (after.code == FC_OK))
+        return "15 exactly when the entry has another origin or clock";
+    if (!same)
+        return NULL;
+    if (number[3] == 0 && memcmp(before, after.table, FC_TABLE_BYTES) != 0)
+        return "adopting (0, 0) of a never-written key changes nothing";
+    const struct call get = {GET, {number[0], number[1]}};
+    return ends_so(&get, 1, before, after) ? NULL : "an adopt takes on what a get would, and answers as it";
+}
+
+/* Reader has the put of origin's, reads it this way and puts another key: what third answers. */
+static struct fc_answer answer_at_third(enum kind way, unsigned origin, unsigned reader, unsigned third)
+{
+    uint8_t table[FC_TABLE_BYTES], reply[FC_REPLY_BYTES];
+    const struct call calls[] = {{OPEN, {FC_SITES, 2}},         {PUT, {origin, 0, 5}}, {DELIVER, {reader, origin}},
+                                 {way, {reader, 0, origin, 1}}, {PUT, {reader, 1, 6}}, {DELIVER, {third, reader}}};
+    for (size_t at = 0; at < sizeof calls / sizeof *calls; at++)
+        answered(calls[at], table, reply);
+    return fc_read(reply);
+}
+
+const char *broken_by_a_look_or_an_adopt(uint64_t *threes)
+{
+    for (unsigned names = 0; names < FC_SITES * FC_SITES * FC_SITES; names++) {
+        unsigned origin = names % FC_SITES, reader = names / FC_SITES % FC_SITES, third = names / FC_SITES / FC_SITES;
+        if (origin == reader || reader == third || third == origin)
+            continue;
+        struct fc_answer looked = answer_at_third(LOOK, origin, reader, third);
+        struct fc_answer adopted = answer_at_third(ADOPT, origin, reader, third);
+        if (looked.code != FC_OK || looked.value != 6)
+            return "a put that was only looked at is not waited for";
+        if (adopted.code != FC_WAITS || adopted.value != 1u << origin || adopted.clock != 1)
+            return "an adopted put is waited for, and no other";
+        *threes += 1;
     }
     return NULL;
 }
@@ -162,13 +235,16 @@ const char *broken_law(enum start start, const struct call *call, const uint8_t 
         return "a refused call keeps all bytes";
     if (after.code == FC_WAITS)
         return broken_by_waiting(call, before, after);
+    if (call->kind == GET)
+        return broken_by_get(call, before, after);
+    if (call->kind == LOOK)
+        return broken_by_look(call, before, after);
+    if (call->kind == ADOPT)
+        return broken_by_adopt(call, before, after);
     if (after.code != FC_OK && after.code != FC_BUDGET)
         return NULL;
     if (call->kind == DELIVER && memcmp(before + DEPENDS, after.table + DEPENDS, STORE - DEPENDS) != 0)
         return "a delivery does not change what the site depends on";
-    if (call->kind == GET && (memcmp(before, after.table, DEPENDS) != 0 ||
-                              memcmp(before + STORE, after.table + STORE, FC_TABLE_BYTES - STORE) != 0))
-        return "a get changes only what the site depends on";
     switch (call->kind) {
     case DRAIN:
         return broken_by_drain(start, call, before, after);

@@ -20,4 +20,8 @@ bool out_of_range(const struct call *call, size_t list_len);
 /* The sentence that a call on a table and a reply of the right lengths breaks, or NULL. */
 const char *broken_law(enum start start, const struct call *call, const uint8_t *before, struct outcome after);
 
+/* The same of "a look makes no cause until adopted": whether a put waits for what was read, between any three
+   sites. It counts them. */
+const char *broken_by_a_look_or_an_adopt(uint64_t *threes);
+
 #endif

@@ -7,6 +7,8 @@ static const bool possible[KINDS][CODES] = {
     [OPEN] = {[0] = true, [1] = true, [3] = true},
     [PUT] = {[0] = true, [1] = true, [2] = true, [4] = true, [6] = true, [7] = true, [8] = true},
     [GET] = {[0] = true, [1] = true, [2] = true, [4] = true, [6] = true},
+    [LOOK] = {[0] = true, [1] = true, [2] = true, [4] = true, [6] = true},
+    [ADOPT] = {[0] = true, [1] = true, [2] = true, [4] = true, [6] = true, [15] = true},
     [DELIVER] = {[0] = true, [1] = true, [2] = true, [4] = true, [5] = true, [9] = true, [10] = true},
     [DRAIN] = {[0] = true, [1] = true, [2] = true, [4] = true, [11] = true},
     [TOUCH] = {[0] = true, [1] = true, [2] = true, [4] = true, [6] = true, [7] = true, [8] = true, [13] = true,
@@ -20,6 +22,10 @@ void met_note(struct met *met, const struct call *call, uint32_t code, const uin
     struct fc_answer answer = fc_read(reply);
     met->never_written += call->kind == GET && code == FC_OK && answer.clock == 0;
     met->joined += call->kind == GET && code == FC_OK && changed;
+    met->looked += call->kind == LOOK && code == FC_OK && answer.clock > 0;
+    met->adopted_none += call->kind == ADOPT && code == FC_OK && answer.clock == 0;
+    met->adopted += call->kind == ADOPT && code == FC_OK && changed;
+    met->wide_clocks += call->kind == ADOPT && code == FC_CHANGED && call->numbers[3] > FC_CLOCKS;
     met->delivered += call->kind == DRAIN && code == FC_OK && answer.clock > 8;
     unsigned waited = 0;
     for (unsigned site = 0; site < FC_SITES; site++) {
@@ -37,8 +43,10 @@ void met_note(struct met *met, const struct call *call, uint32_t code, const uin
 
 bool met_all(const struct met *met)
 {
-    bool all = met->never_written && met->joined && met->delivered && met->stopped_late && met->listed &&
-               met->ahead && met->malformed && met->hours_kept && !met->waits[0];
+    bool all = met->never_written && met->joined && met->looked && met->adopted_none && met->adopted &&
+               met->wide_clocks && met->delivered && met->stopped_late && met->listed && met->ahead &&
+               met->malformed && met->hours_kept && !met->waits[0] &&
+               met->threes == FC_SITES * (FC_SITES - 1) * (FC_SITES - 2);
     for (unsigned site = 0; site < FC_SITES; site++)
         all = all && met->waits_for[site];
     for (unsigned sites = 1; sites < 5; sites++)
@@ -67,6 +75,10 @@ void met_print(const struct met *met)
            "drains stopped after a delivery %llu\n",
            (unsigned long long)met->never_written, (unsigned long long)met->joined,
            (unsigned long long)met->delivered, (unsigned long long)met->stopped_late);
+    printf("looks of a written key %llu, adopts of a never-written key %llu, adopts that join %llu, "
+           "adopts of a clock above 65,535 %llu\n",
+           (unsigned long long)met->looked, (unsigned long long)met->adopted_none, (unsigned long long)met->adopted,
+           (unsigned long long)met->wide_clocks);
     printf("cold lists with a key %llu, with a clock ahead %llu, with a malformed value %llu, "
            "touches that keep the hour %llu\n",
            (unsigned long long)met->listed, (unsigned long long)met->ahead, (unsigned long long)met->malformed,

@@ -6,11 +6,13 @@
 
 #include <stdbool.h>
 
-enum { CODES = 16 }; /* no call may answer 12, a schedule's, nor the last, which stands for anything beyond 14 */
+enum { CODES = 17 }; /* no call may answer 12, a schedule's, nor the last, which stands for anything beyond 15 */
 
 struct met {
     uint64_t codes[KINDS][CODES];
     uint64_t never_written, joined, delivered, stopped_late;
+    uint64_t looked, adopted_none, adopted, wide_clocks;
+    uint64_t threes; /* any three sites, tried with a look and with an adopt */
     uint64_t listed, ahead, malformed, hours_kept;
     uint64_t waits[FC_SITES + 1]; /* deliveries that wait for one site, for two, .. */
     uint64_t waits_for[FC_SITES];

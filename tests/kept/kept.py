@@ -16,7 +16,7 @@ sys.path.insert(0, str(HERE / "tools"))
 from declared import laws, report, uncommented  # noqa: E402
 
 NAME = re.compile(r"[^\s(){};,.:]+")
-PATH = re.compile(r"(?:crates|tests|tools|docs|include|examples|bench)/[\w./*+-]*")
+PATH = re.compile(r"(?:crates|tests|tools|docs|include|examples|bench|twin)/[\w./*+-]*")
 # Words of a path that stand for any name.
 ANY = re.compile(r"\b(?:NAME|LABEL|FUNCTION|LETTER)\b")
 
@@ -46,10 +46,12 @@ class Claimed:
     """The names of the claims and their proofs, and of what these are made of, definition by definition."""
 
     def __init__(self, root):
-        self.made_of = {}
+        self.made_of, self.fields = {}, {}
         for file in root.glob("crates/*/specs/**/*.antt"):
             for name, text in laws(file.read_text()).items():
-                self.made_of.setdefault(name.partition("#")[0], set()).update(words(text))
+                owner = name.partition("#")[0]
+                self.made_of.setdefault(owner, set()).update(words(text))
+                self.fields.setdefault(owner, set()).update(re.findall(r"\bpub (\S+) :", text))
         self.names = set()
         pages = [*root.glob("crates/claims/specs/*s.antt"), *root.glob("crates/claims/proofs/*ed.antt")]
         new = set().union(*(self.of(page.read_text()) for page in pages))
@@ -65,13 +67,13 @@ class Claimed:
     def has(self, name):
         """A name, or a record's field as Record.field."""
         owner, _, field = name.partition(".")
-        return owner in self.names and (not field or field in self.made_of.get(owner, set()))
+        return owner in self.names and (not field or field in self.fields.get(owner, set()))
 
 
 def column(text, head, which):
     """The back-quoted words in a column of the table with this head; '.field' is of the record before it."""
-    table = text.partition(f"\n| {head} |")[2].partition("\n\n")[0]
-    for row in table.splitlines()[2:]:
+    tables = [each.partition("\n\n")[0] for each in text.split(f"\n| {head} |")[1:]]
+    for row in (row for table in tables for row in table.splitlines()[2:]):
         owner = ""
         for name in re.findall(r"`([^`]+)`", row.split("|")[which]):
             owner = owner if name.startswith(".") else name.partition(".")[0]

@@ -13,8 +13,8 @@ class Kept(unittest.TestCase):
         folder = tempfile.TemporaryDirectory()
         self.addCleanup(folder.cleanup)
         self.root = Path(folder.name)
-        for name in ["crates", "docs", "tests", "tools", "include", "examples", "bench"]:
-            shutil.copytree(HERE / name, self.root / name)
+        for name in ["crates", "docs", "tests", "tools", "include", "examples", "bench", "twin"]:
+            shutil.copytree(HERE / name, self.root / name, ignore=shutil.ignore_patterns("target"))
         for name in ["crates.txt", "README.md", "CONTRIBUTING.md"]:
             shutil.copy(HERE / name, self.root / name)
 
@@ -46,6 +46,13 @@ class Kept(unittest.TestCase):
         self.edit("crates/claims/specs/Claims.antt", "  pub given : GivenExactly\n", "")
         self.assertIn("docs/PROMISES.md: no claim is made of GivenExactly", self.found())
 
+    def test_a_name_in_a_later_table(self):
+        self.edit("docs/READING.md", "`AdoptNever`", "`AdoptAlways`")
+        self.assertEqual(self.found(), ["docs/READING.md: no claim is made of AdoptAlways"])
+        self.edit("docs/READING.md", "`AdoptAlways`", "`AdoptNever`")
+        self.edit("crates/claims/specs/Claims.antt", "  pub looking :", "  pub lookings :")
+        self.assertEqual(self.found(), ["docs/READING.md: no claim is made of OfHistories.looking"])
+
     def test_a_field_that_went(self):
         self.edit("docs/READING.md", "`Ordered.put-first`", "`Ordered.handed`")
         self.assertEqual(self.found(), ["docs/READING.md: no claim is made of Ordered.handed"])
@@ -61,6 +68,8 @@ class Kept(unittest.TestCase):
         self.assertEqual(self.found(), ["docs/DECISIONS.md: there is no deliver-sound in crates/laws/proofs/Codes.antt"])
         self.edit("README.md", "(docs/scope.svg)", "(docs/scopes.svg)")
         self.assertIn("README.md: there is no docs/scopes.svg", self.found())
+        (self.root / "twin" / "tests" / "looks.rs").unlink()
+        self.assertIn("CONTRIBUTING.md: there is no twin/tests/looks.rs", self.found())
 
 
 unittest.main()

@@ -1,10 +1,11 @@
 """What is missing of the promises in the source, a line each. A public call is one that a C program makes, or a public
-function that writes a lent buffer and asks nothing of its caller. Its ensures is, to the letter,
+function that asks nothing of its caller and writes a lent buffer or has a call's name. Its ensures is, to the letter,
 
     Promise (now (BUFFER .entry)).. (Call NUMBER..) (OUTCOME result (now (BUFFER .exit))..)
 
-with every lent buffer, the constructor of the function's name with every number, and every written buffer, all in the
-order of the parameters. A cold list has the numbers alone: its promise knows the call, since it alone lends a list.
+with every lent buffer, the constructor of the function's name with every number, and every lent buffer again, one that
+is only read as it was at entry, all in the order of the parameters. A cold list has the numbers alone: its promise knows
+the call, since it alone lends a list.
 pinned.txt has the definitions that give these words their meaning.
 
 usage: promises.py [ROOT]
@@ -92,10 +93,11 @@ def expected(said, name, taken, result, promise):
     numbers = [each for each, width in found if not width.startswith("&")]
     call = SAID.get(said) or f"({' '.join([constructor(name), *numbers])})"
     exits = " ".join(f"(now ({each} .exit))" for each in written)
+    left = " ".join(f"(now ({each} .{'exit' if each in written else 'entry'}))" for each in lent)
     if promise == WRITTEN:
         return f"Written {' '.join(f'(now ({each} .entry))' for each in written)} {call} {result} {exits}"
     entries = " ".join(f"(now ({each} .entry))" for each in lent)
-    return f"{promise[1]} {entries} {call} ({OUTCOMES[promise][1]} {result} {exits})"
+    return f"{promise[1]} {entries} {call} ({OUTCOMES[promise][1]} {result} {left})"
 
 
 def foreign(wanted, promise, taken, result, brought):
@@ -146,7 +148,8 @@ def function_faults(said, words, taken, clauses, text, proved):
         yield "it has no ensures"
     if exports and asks:
         yield "a C program can't know what it requires"
-    if exports or (re.search(r"&(?:'\w+\s+)?mut\b", taken) and not asks):
+    named = "&" in taken and constructor(said.split("::")[-1]) in proved.fields
+    if exports or (not asks and (named or re.search(r"&(?:'\w+\s+)?mut\b", taken))):
         if ensures:
             yield from call_faults(said, exports, taken, ensures, text, proved)
         if f"`{said}`" not in proved.table:

@@ -124,6 +124,16 @@ class Small(unittest.TestCase):
         lent = CODE + "pub fn wipe(t: &mut [u8]) ensures { λ _. ⌜ now (t .exit) ≡ [] ⌝ } { }"
         self.assertEqual(self.of(lent, table=TABLE + "`forkcanyon::wipe`"), [other.replace("fc_get", "wipe")])
 
+    def test_a_call_that_only_reads(self):
+        lent = CODE + "pub fn get(t: &[u8], site: usize) -> u8 ensures { λ r. ⌜ SAID ⌝ } { 0 }"
+        kept = "Promise (now (t .entry)) (Get site) (left r (now (t .entry)))"
+        specs = {"table/specs/NoSecond.antt": "pub get-no-second : NoSecond\n"}
+        table = TABLE + "`forkcanyon::get`"
+        self.assertEqual(self.of(lent.replace("SAID", kept), specs=specs, table=table), [])
+        for said in ["r ≡ 0", kept.replace(".entry)))", ".exit)))")]:
+            self.assertEqual(len(self.of(lent.replace("SAID", said), specs=specs, table=table)), 1, said)
+        self.assertEqual(self.of(lent.replace("SAID", kept)), ["get: there is no theorem get-no-second", "get: docs/PROMISES.md has no row for it"])
+
     def test_an_empty_promise(self):
         fault = not_promised("fc_get", "(Get site key)")
         for old, new in [
@@ -144,14 +154,15 @@ class Small(unittest.TestCase):
 
     def test_more_buffers_and_a_renamed_number(self):
         promise = "Promise (now (t .entry)) (now (old .entry)) (now (list .entry)) (Touch site hour)"
-        said = f"ensures {{ λ r. ⌜ {promise} (left r (now (t .exit)) (now (list .exit))) ⌝ }} {{ 0 }}"
+        said = f"ensures {{ λ r. ⌜ {promise} (left r (now (t .exit)) (now (old .entry)) (now (list .exit))) ⌝ }} {{ 0 }}"
         code = CODE.replace("Drain}", "Drain, Touch}") + '#[no_mangle] pub extern "C" fn fc_touch'
         taken = "(site: u64, hour: u64, t: &mut [u8], old: &[u8], list: &mut [u8]) -> u32 "
         words = {"forkcanyon/specs/More.antt": SPECS["forkcanyon/specs/NoSecond.antt"].replace("get", "touch")}
         others = {"specs": words, "table": TABLE + "`forkcanyon::fc_touch`"}
         self.assertEqual(self.of(code + taken + said, **others), [])
-        swapped = said.replace("(now (t .exit)) (now (list .exit))", "(now (list .exit)) (now (t .exit))")
-        self.assertIn("fc_touch: its promise is not", " ".join(self.of(code + taken + swapped, **others)))
+        for left in ["(now (t .exit)) (now (list .exit))", "(now (list .exit)) (now (old .entry)) (now (t .exit))"]:
+            other = said.replace("(now (t .exit)) (now (old .entry)) (now (list .exit))", left)
+            self.assertIn("fc_touch: its promise is not", " ".join(self.of(code + taken + other, **others)))
 
     def test_numbers_of_another_name(self):
         both = CODE.replace("    site: u64,\n    key: u64,", "    key: u64,\n    site: u64,")
@@ -195,9 +206,9 @@ class Here(unittest.TestCase):
             shutil.copytree(HERE / "crates", root / "crates")
             shutil.copytree(HERE / "docs", root / "docs")
             shutil.copytree(HERE / "tests" / "promises", root / "tests" / "promises")
-            counts = {"table": 4, "touch": 1, "cold": 1, "drain": 1, "forkcanyon": 6, "schedule": 3}
+            counts = {"table": 4, "touch": 1, "cold": 1, "drain": 1, "forkcanyon": 8, "schedule": 3}
             files = {f"{crate}/src/lib.rt": calls for crate, calls in counts.items()}
-            for name, calls in {**files, "forkcanyon/src/cold_list.rt": 1}.items():
+            for name, calls in {**files, "table/src/look.rt": 2, "forkcanyon/src/cold_list.rt": 1}.items():
                 file, crate = root / "crates" / name, name.split("/")[0]
                 kept = file.read_text()
                 found = list(HEAD.finditer(kept))

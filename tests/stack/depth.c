@@ -37,6 +37,13 @@ static uint32_t nothing_put(uint64_t a, uint64_t b, uint32_t v, uint8_t *t, size
     return (uint32_t)(a + b + v + tl + rl + (t == r));
 }
 
+static uint32_t nothing_adopt(uint64_t a, uint64_t b, uint64_t c, uint64_t d, uint8_t *t, size_t tl, uint8_t *r,
+                              size_t rl)
+{
+    caller = __builtin_dwarf_cfa();
+    return (uint32_t)(a + b + c + d + tl + rl + (t == r));
+}
+
 static uint32_t nothing_touch(uint64_t a, uint64_t b, uint64_t c, uint64_t d, uint64_t e, uint8_t *t, size_t tl,
                               uint8_t *r, size_t rl)
 {
@@ -52,8 +59,8 @@ static uint32_t nothing_cold(uint64_t a, uint64_t b, uint64_t c, uint8_t *t, siz
 }
 
 /* Calls that do nothing but tell where their caller's stack ends. */
-static const struct library nothing = {"nothing",   nothing_two, nothing_two,   nothing_two,
-                                       nothing_two, nothing_put, nothing_touch, nothing_cold};
+static const struct library nothing = {"nothing",   nothing_two, nothing_two,   nothing_two,   nothing_two,
+                                       nothing_two, nothing_put, nothing_adopt, nothing_touch, nothing_cold};
 
 static uint32_t known_two(uint64_t a, uint64_t b, uint8_t *t, size_t tl, uint8_t *r, size_t rl)
 {
@@ -179,6 +186,7 @@ int main(void)
         start_from((enum start)(times % STARTS), &rng);
         struct traffic traffic = some_traffic(&rng, FC_SITES, FC_KEYS, 5);
         traffic.weights[DRAIN] = traffic.weights[OPEN] = 1;
+        traffic.table = table;
         for (int calls = 0; calls < CALLS_EACH; calls++)
             measure(some_call(&rng, &traffic), calls == 0 ? FC_TABLE_BYTES - 1 : FC_TABLE_BYTES);
     }

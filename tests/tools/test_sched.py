@@ -50,6 +50,8 @@ class Errors(unittest.TestCase):
         top = "# a comment\nsites 3 keys 4\n\n"
         self.assert_line(4, "put takes site key value", top + "put 0 1")
         self.assert_line(5, "'push' is none of", top + "put 0 1 7 # fine\npush 1")
+        for call in ("look 0 1", "adopt 0 1 0 0", "touch 0 1 0 0 0", "cold 0 1 24"):
+            self.assert_line(4, f"'{call.split()[0]}' is none of put, get, deliver, drain", top + call)
         self.assert_line(4, "site 8 is above 7", top + "drain 8")
         self.assert_line(4, "key 256 is above 255", top + "get 0 256")
         self.assert_line(4, "value 4294967296 is above", top + "put 0 0 4294967296")
@@ -71,6 +73,11 @@ class Tool(unittest.TestCase):
         scope = str(ROOT / "docs" / "scope.sched")
         self.assertEqual(run_tool("sched", "encode", scope).stdout, SCOPE)
         self.assertEqual(run_tool("sched", "decode", data=SCOPE).stdout.decode(), text_of(SCOPE))
+
+    def test_it_says_which_steps_there_are(self):
+        run = run_tool("sched", "look")
+        self.assertEqual((run.returncode, run.stdout), (1, b""))
+        self.assertIn(b"steps put, get, deliver and drain. Look, adopt, touch and the cold list are", run.stderr)
 
     def test_an_error_ends_it(self):
         run = run_tool("sched", "encode", data=b"sites 3 keys 4\nput 0\n")

@@ -20,6 +20,7 @@ pub enum Code {
     UnusedField = 12,
     NoRecord = 13,
     OutOfRange = 14,
+    Changed = 15,
 }
 
 /// For drain, `clock` holds the deliveries and `value` the tries.

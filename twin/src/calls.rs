@@ -1,4 +1,5 @@
-//! Open, put, get and deliver on a buffer of the right length; refusals stand in the order in which they are asked.
+//! Open, put, get, look, adopt and deliver on a buffer of the right length; refusals stand in the order in which they
+//! are asked.
 
 use crate::answer::{Answer, Code, Outcome};
 use crate::sound::is_sound;
@@ -42,18 +43,47 @@ pub fn get(table: &mut Table, site: u64, key: u64) -> Outcome {
     demand_sound(table)?;
     let site = named_site(table, site)?;
     let key = named_key(table, key)?;
-    Ok(match get_at(table, site, key) {
-        Some(entry) => Answer::accepted(key as u8, entry.name, entry.clock, entry.value),
-        None => Answer::accepted(key as u8, 0, 0, 0),
-    })
+    Ok(read(key, get_at(table, site, key)))
 }
 
-/// A get on a sound table at one of its sites and keys; nothing comes of a never-written key.
-pub fn get_at(table: &mut Table, site: usize, key: usize) -> Option<Record> {
+/// "Look, which answers as get and changes nothing."
+pub fn look(table: &Table, site: u64, key: u64) -> Outcome {
+    demand_sound(table)?;
+    let site = named_site(table, site)?;
+    let key = named_key(table, key)?;
+    Ok(read(key, look_at(table, site, key)))
+}
+
+/// "Adopt, which takes on the dependence for a key whose origin and clock the caller names."
+pub fn adopt(table: &mut Table, site: u64, key: u64, origin: u64, clock: u64) -> Outcome {
+    demand_sound(table)?;
+    let site = named_site(table, site)?;
+    let origin = named_site(table, origin)?;
+    let key = named_key(table, key)?;
+    // "15 when the entry no longer has that origin and clock"; a never-written one has (0, 0).
     let entry = table.entry(site, key);
-    if entry.clock == 0 {
-        return None;
+    if usize::from(entry.name) != origin || u64::from(entry.clock) != clock {
+        return Err(Answer::refused(Code::Changed));
     }
+    Ok(read(key, get_at(table, site, key)))
+}
+
+/// "All three answer alike."
+fn read(key: usize, entry: Option<Record>) -> Answer {
+    match entry {
+        Some(entry) => Answer::accepted(key as u8, entry.name, entry.clock, entry.value),
+        None => Answer::accepted(key as u8, 0, 0, 0),
+    }
+}
+
+/// A look on a sound table at one of its sites and keys; nothing comes of a never-written key.
+pub fn look_at(table: &Table, site: usize, key: usize) -> Option<Record> {
+    Some(table.entry(site, key)).filter(|entry| entry.clock != 0)
+}
+
+/// The same with the dependence on what was read.
+pub fn get_at(table: &mut Table, site: usize, key: usize) -> Option<Record> {
+    let entry = look_at(table, site, key)?;
     let origin = usize::from(entry.name);
     let mut depends = join(table.depends_row(site), entry.depends);
     depends[origin] = depends[origin].max(entry.clock);

@@ -1,7 +1,7 @@
 //! The cold list.
 
 use crate::answer::{Answer, Code, Outcome};
-use crate::calls::{demand_sound, get_at, named_site};
+use crate::calls::{demand_sound, look_at, named_site};
 use crate::table::{Table, KEYS};
 use crate::touch::Touch;
 
@@ -25,14 +25,14 @@ pub fn asked(now: u64, threshold: u64, list: &mut [u8]) -> Result<Asked<'_>, Ans
 }
 
 /// "The answer's key, site and clock count keys listed, clocks ahead and malformed values."
-pub fn cold(table: &mut Table, site: u64, asked: Asked) -> Outcome {
+pub fn cold(table: &Table, site: u64, asked: Asked) -> Outcome {
     demand_sound(table)?;
     let site = named_site(table, site)?;
     let (mut listed, mut ahead, mut malformed) = (0, 0, 0);
     *asked.list = [0; LIST_BYTES];
     for key in 0..table.keys() {
-        // "The list gets every key at one site"; "never-written keys are left out".
-        let Some(entry) = get_at(table, site, key) else { continue };
+        // "The cold list uses look"; "never-written keys are left out".
+        let Some(entry) = look_at(table, site, key) else { continue };
         let Some(touch) = Touch::read(entry.value) else {
             malformed += 1;
             continue;

@@ -32,6 +32,16 @@ pub fn get(site: u64, key: u64, table: &mut [u8], reply: &mut [u8]) -> u32 {
     edge(table, reply, |table| calls::get(table, site, key))
 }
 
+/// Reads a key at a site and changes nothing.
+pub fn look(site: u64, key: u64, table: &mut [u8], reply: &mut [u8]) -> u32 {
+    edge(table, reply, |table| calls::look(table, site, key))
+}
+
+/// Reads a key at a site as a get does, if it still holds the put of that origin and clock.
+pub fn adopt(site: u64, key: u64, origin: u64, clock: u64, table: &mut [u8], reply: &mut [u8]) -> u32 {
+    edge(table, reply, |table| calls::adopt(table, site, key, origin, clock))
+}
+
 /// Applies at a site the next update of an origin, if nothing it depends on is missing.
 pub fn deliver(site: u64, origin: u64, table: &mut [u8], reply: &mut [u8]) -> u32 {
     edge(table, reply, |table| calls::deliver(table, site, origin))
@@ -42,7 +52,7 @@ pub fn drain(site: u64, budget: u64, table: &mut [u8], reply: &mut [u8]) -> u32 
     edge(table, reply, |table| drain::drain(table, site, budget))
 }
 
-/// Lists the keys that have been cold at a site for the threshold or longer; gets every key there.
+/// Lists the keys that have been cold at a site for the threshold or longer; changes nothing.
 pub fn cold(site: u64, now: u64, threshold: u64, table: &mut [u8], list: &mut [u8], reply: &mut [u8]) -> u32 {
     let asked = cold::asked(now, threshold, list);
     edge_asked(asked, table, reply, |asked, table| cold::cold(table, site, asked))

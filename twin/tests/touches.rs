@@ -124,19 +124,24 @@ fn never_written_keys_are_left_out() {
 }
 
 #[test]
-fn the_list_gets_every_key() {
+fn the_list_changes_no_byte() {
     let mut session = opened(3, 3);
     session.put(0, 0, record(7, 0, 0));
     session.put(1, 2, 1);
     session.deliver(2, 0);
     session.deliver(2, 1);
-    let mut listed = Session { table: session.table.clone(), list: session.list };
-    listed.cold(2, 1_000, 24);
-    for key in 0..3 {
+    let before = session.table.clone();
+    assert_eq!(session.cold(2, 1_000, 24), [0, 1, 0, 1, 0]);
+    assert_eq!(session.table, before);
+    // A get of what it listed, or of the malformed value, would have.
+    for key in [0, 2] {
         session.get(2, key);
+        assert_ne!(session.table, before);
+        session.table.clone_from(&before);
     }
-    assert_eq!(listed.table, session.table);
-    assert_eq!(listed.table[164..170], [0, 1, 0, 1, 0, 0]);
+    // So what the site puts now waits for neither.
+    session.put(2, 1, 5);
+    assert_eq!(session.deliver(1, 2), [0, 1, 2, 1, 5]);
 }
 
 #[test]
@@ -144,7 +149,7 @@ fn a_touch_is_its_get_and_its_put() {
     let mut session = opened(3, 2);
     session.touch(0, 0, 7, USER, 1);
     session.deliver(1, 0);
-    let mut both = Session { table: session.table.clone(), list: session.list };
+    let mut both = session.clone();
     assert_eq!(session.touch(1, 0, 900, SCAN, 2), [0, 0, 1, 1, record(7, 1, 2)]);
     both.get(1, 0);
     both.put(1, 0, record(7, 1, 2));

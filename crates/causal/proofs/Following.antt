@@ -14,16 +14,17 @@ use Rattle.layout.specs.State.{State, lastClock}
 use Rattle.rules.specs.Sound.{sound, Sound}
 use Rattle.rules.specs.Steps as r
 use Rattle.rules.specs.Steps.{Numbers, Outcome}
-use Rattle.rules.specs.Calls.{Call, Put, Get, Deliver, refusals, step, run}
+use Rattle.rules.specs.Calls.{Call, Put, Get, Look, Adopt, Deliver, refusals, step, run}
 use Rattle.rules.specs.Refusals.{first, missing, deliver-refusals}
-use Rattle.laws.proofs.Ready.{DeliverReady, put-ready, get-ready, deliver-ready, deliver-nine, deliver-ten}
+use Rattle.laws.proofs.Ready.{GetReady, AdoptReady, DeliverReady, put-ready, get-ready, adopt-ready, deliver-ready, deliver-nine, deliver-ten}
 use Rattle.laws.specs.Theorems.{LowestMissing}
 use Rattle.laws.proofs.Given.{run-cases, run-refused}
 use Rattle.laws.proofs.Codes.{code-first, missing-named}
-use Rattle.laws.proofs.Keeps.{put-sound, get-sound, deliver-sound}
+use Rattle.laws.proofs.Keeps.{put-sound, get-origin, get-sound, deliver-sound}
 use Rattle.causal.specs.World as w
-use Rattle.causal.specs.World.{World, Answer, Behind, CausesApplied, put, get, update, PUT, GET, UPDATE, withPut, withGet, withUpdate}
-use Rattle.causal.specs.Refines.{Tops, Abstracts, answer, numbers, Steps, Refines, Tells, Follows}
+use Rattle.causal.specs.World.{World, Answer, Behind, CausesApplied, Event, put, get, look, adopt, update, PUT, GET, LOOK, ADOPT, UPDATE, withPut, withGet, withUpdate}
+use Rattle.causal.specs.History.{History}
+use Rattle.causal.specs.Refines.{Tops, Abstracts, told, found, Steps, Refines, Tells, Follows}
 use Rattle.causal.proofs.Sites.{next}
 use Rattle.causal.proofs.Vectors.{tops-worst, same-answers}
 use Rattle.causal.proofs.Related.{put-next, put-related, get-related, deliver-numbers, deliver-related, same-due, same-check, same-waiting}
@@ -64,28 +65,80 @@ module _ (S : State) (D : Sound S) (W : World) (A : Abstracts S W) where
         sound = put-sound S s x v R;
       })
 
-  got : (s x : ℕ) (a : Answer) → s < S .n → x < S .k → let e = S .store s x in a ≡ answer (e .value) (e .origin) (e .clock)
-      → r.get S s x .answer ≡ numbers (get s x a)
-  unfolding r.get
-  got s x a p q k =
-      rw k
-      (⊎-elim
-      (λ b. rw (b .value, b .origin, b .clock))
-      (λ b. rw (ne-eqb (S .store s x .clock) 0 (λ z. omega (arith, b .some))))
-      (D .entries s x p q))
+  -- get, look and adopt answer what the world's entry says
+  module _ (s x : ℕ) (p : s < S .n) (q : x < S .k) where
+    got : r.seen S s x ≡ told x (W .store s x .answer)
+    got =
+        rw (A .answers s x p q)
+        (⊎-elim
+        (λ b. rw (b .value, b .origin, b .clock))
+        (λ b. rw (ne-eqb (S .store s x .clock) 0 (λ z. omega (arith, b .some))))
+        (D .entries s x p q))
+
+    named : (e : Answer → Event) (h : History) → e (found S s x) ∷ h ≡ e (W .store s x .answer) ∷ h
+    named e h = ap (λ (a : Answer). e a ∷ h) (sym (A .answers s x p q))
+
+  asked : (s x : ℕ) → GetReady S s x ↔ ((s < S .n) × (x < S .k))
+  asked s x = ((λ R. (R .site, R .key)), λ p. record { sound = D; site = p .0; key = p .1 })
 
   pub gets : (s x : ℕ) → Refines S W (Get s x) ((s < S .n) × (x < S .k)) (run S (Get s x))
   unfolding refusals step r.get
   gets s x =
-      refines S W (Get s x) (get-ready S s x) ((λ R. (R .site, R .key)), λ p. record { sound = D; site = p .0; key = p .1 }) refl
+      refines S W (Get s x) (get-ready S s x) (asked s x) refl
       (λ R.
       record {
         event = get s x (W .store s x .answer);
         world = withGet W s x;
         step = GET s x (R .site) (R .key);
-        call = λ h. ap (λ (a : Answer). get s x a ∷ h) (sym (A .answers s x (R .site) (R .key)));
-        answer = got s x _ (R .site) (R .key) (A .answers s x (R .site) (R .key));
+        call = named s x (R .site) (R .key) (get s x);
+        answer = got s x (R .site) (R .key);
         abstracts = get-related S s x R W A;
+        sound = get-sound S s x D;
+      })
+
+  pub looks : (s x : ℕ) → Refines S W (Look s x) ((s < S .n) × (x < S .k)) (run S (Look s x))
+  unfolding refusals step r.look
+  looks s x =
+      refines S W (Look s x) (get-ready S s x) (asked s x) refl
+      (λ R.
+      record {
+        event = look s x (W .store s x .answer);
+        world = W;
+        step = LOOK s x (R .site) (R .key);
+        call = named s x (R .site) (R .key) (look s x);
+        answer = got s x (R .site) (R .key);
+        abstracts = A;
+        sound = D;
+      })
+
+  abbrev entry : (s x : ℕ) → Numbers
+  entry s x = told x (W .store s x .answer)
+
+  -- the entry that is named
+  asked-entry : (s x o c : ℕ) → AdoptReady S s x o c ↔ ((s < S .n) × (x < S .k) × (entry s x .site ≡ o) × (entry s x .clock ≡ c))
+  asked-entry s x o c = (
+    (λ R. let e = got s x (R .get .site) (R .get .key) in (R .get .site, R .get .key, cc (e, R .origin), cc (e, R .clock))),
+    λ (p, q, i, j).
+        let e = got s x p q in
+        let R = asked s x .1 (p, q) in
+        let k : S .store s x .origin ≡ o = cc (e, i) in
+        record { get = R; below = omega (arith, get-origin S s x R); origin = k; clock = cc (e, j) },
+  )
+
+  pub adopts : (s x o c : ℕ) → Refines S W (Adopt s x o c) ((s < S .n) × (x < S .k) × (entry s x .site ≡ o) × (entry s x .clock ≡ c)) (run S (Adopt s x o c))
+  unfolding refusals step r.get
+  adopts s x o c =
+      refines S W (Adopt s x o c) (adopt-ready S s x o c) (asked-entry s x o c) refl
+      (λ R.
+      let p = R .get .site in
+      let q = R .get .key in
+      record {
+        event = adopt s x (W .store s x .answer);
+        world = withGet W s x;
+        step = ADOPT s x p q;
+        call = named s x p q (adopt s x);
+        answer = got s x p q;
+        abstracts = get-related S s x (R .get) W A;
         sound = get-sound S s x D;
       })
 
@@ -135,13 +188,13 @@ module _ (S : State) (D : Sound S) (W : World) (A : Abstracts S W) (s o : ℕ) w
   abbrev a : Numbers
   a = run S (Deliver s o) .answer
 
-  told : (e : ℕ) → e ≢ 0 → e ≢ 11 → (a .code ≡ e) ↔ (first (deliver-refusals S s o) ≡ e)
+  given : (e : ℕ) → e ≢ 0 → e ≢ 11 → (a .code ≡ e) ↔ (first (deliver-refusals S s o) ≡ e)
   unfolding refusals
-  told = code-first S (Deliver s o)
+  given = code-first S (Deliver s o)
 
   nine : (a .code ≡ 9) ↔ ((s < S .n) × (o < S .n) × (s ≢ o) × (Behind W s o → ⊥))
   nine =
-      Iff·trans (told 9 (omega arith) (omega arith)) (Iff·trans (deliver-nine S s o) (
+      Iff·trans (given 9 (omega arith) (omega arith)) (Iff·trans (deliver-nine S s o) (
         (λ (_, ((p, q), (k, e))). (p, q, k, λ d. omega (arith, same-due S D s o p q W A .0 d))),
         λ (p, q, k, f). (D, ((p, q), (k, ⊎-elim (λ e. e) (λ e. absurd (f (same-due S D s o p q W A .1 (behind S D W A s o p q .0 e)))) (eq? (S .applied s o) (S .applied o o))))),
       ))
@@ -151,8 +204,8 @@ module _ (S : State) (D : Sound S) (W : World) (A : Abstracts S W) (s o : ℕ) w
     abbrev lt : S .applied s o < S .applied o o
     lt = same-due S D s o p q W A .0 d
 
-    found : Denies (any 8 (missing S s o)) (CausesApplied W s o)
-    found =
+    finds : Denies (any 8 (missing S s o)) (CausesApplied W s o)
+    finds =
         Iff·trans (denies-any (missing S s o) (λ j. r.waiting S s o .depends j ≤ S .applied s j) 8 (λ j. denies-lt _ _)) (Iff·symm (same-check S D s o p q W A lt))
 
     tops : Tops (r.waiting S s o .depends) (w.waiting W s o .depends)
@@ -160,10 +213,10 @@ module _ (S : State) (D : Sound S) (W : World) (A : Abstracts S W) (s o : ℕ) w
 
   ten : (a .code ≡ 10) ↔ ((s < S .n) × (o < S .n) × (s ≢ o) × Behind W s o × (CausesApplied W s o → ⊥))
   ten =
-      Iff·trans (told 10 (omega arith) (omega arith)) (Iff·trans (deliver-ten S s o) (
+      Iff·trans (given 10 (omega arith) (omega arith)) (Iff·trans (deliver-ten S s o) (
         (λ (_, ((p, q), (k, (b, m)))).
             let d = same-due S D s o p q W A .1 (behind S D W A s o p q .0 b) in
-            (p, q, k, d, λ f. both m (found p q d .1 f))),
+            (p, q, k, d, λ f. both m (finds p q d .1 f))),
         λ (p, q, k, d, f). (
           D,
           (
@@ -172,7 +225,7 @@ module _ (S : State) (D : Sound S) (W : World) (A : Abstracts S W) (s o : ℕ) w
               k,
               (
                 behind S D W A s o p q .1 (lt p q d),
-                ⊎-elim (λ e. e) (λ e. absurd (f (found p q d .0 e))) (true-or-false (any 8 (missing S s o))),
+                ⊎-elim (λ e. e) (λ e. absurd (f (finds p q d .0 e))) (true-or-false (any 8 (missing S s o))),
               ),
             ),
           ),
@@ -221,4 +274,4 @@ module _ (S : State) (D : Sound S) (W : World) (A : Abstracts S W) (s o : ℕ) w
   tells = record { nine = nine; ten = ten; fails = fails; lowest = lowest; greatest = greatest; waits = waits; eight = λ z. M z .below }
 
 pub follows : (S : State) → Sound S → (W : World) → Abstracts S W → Follows S W (run S)
-follows S D W A = record { puts = λ s x v h. puts S D W A s x v; gets = gets S D W A; delivers = delivers S D W A; tells = tells S D W A }
+follows S D W A = record { puts = λ s x v h. puts S D W A s x v; gets = gets S D W A; looks = looks S D W A; adopts = adopts S D W A; delivers = delivers S D W A; tells = tells S D W A }

@@ -8,7 +8,7 @@ use lib.Dec.{eqb}
 use borrow.Author.Tests.{eqb-true, eq-eqb}
 use Rattle.clock.specs.Map.{if_then_else_}
 use Rattle.clock.specs.Lists.{_∈_, Before}
-use Rattle.causal.specs.World.{Event, put, get, update}
+use Rattle.causal.specs.World.{Event, put, get, look, adopt, update}
 use Rattle.causal.specs.History.{History, Op, Write, Read, op, order, Ordered, AppliedExactly}
 use Rattle.causal.proofs.Sites.{clash}
 
@@ -23,26 +23,19 @@ pub in-right : {A : Type 0} (a : A) (l m : List A) → a ∈ m → a ∈ (l ++ m
 in-right a [] m q = q
 in-right a (x ∷ l) m q = inr (in-right a l m q)
 
+-- what stands in a list of at most one
+one : {A : Type 0} (i : Bool) (a b : A) → a ∈ (if i then b ∷ [] else []) → (i ≡ true) × (a ≡ b)
+one true a b (inl r) = (refl, r)
+one true a b (inr r) = absurd r
+one false a b r = absurd r
+
 op-is : (s : ℕ) (e : Event) (o c x v : ℕ) → Write o c x v ∈ op s e → ((o ≡ s) × (put o x v c ≡ e)) ⊎ (update s o c x v ≡ e)
 unfolding op
-op-is s (put t y w b) o c x v = go (eqb t s) refl
-  where
-    go : (i : Bool) → eqb t s ≡ i → Write o c x v ∈ (if i then Write t b y w ∷ [] else []) → ((o ≡ s) × (put o x v c ≡ put t y w b)) ⊎ (update s o c x v ≡ put t y w b)
-    go true e (inl r) = let z : t ≡ s = eqb-true t s e in inl ((cc), (cc))
-    go true e (inr r) = absurd r
-    go false e r = absurd r
-op-is s (get t y a) o c x v = go (eqb t s)
-  where
-    go : (i : Bool) → Write o c x v ∈ (if i then Read y a ∷ [] else []) → ((o ≡ s) × (put o x v c ≡ get t y a)) ⊎ (update s o c x v ≡ get t y a)
-    go true (inl r) = clash (cc)
-    go true (inr r) = absurd r
-    go false r = absurd r
-op-is s (update t o₁ b y w) o c x v = go (eqb t s) refl
-  where
-    go : (i : Bool) → eqb t s ≡ i → Write o c x v ∈ (if i then Write o₁ b y w ∷ [] else []) → ((o ≡ s) × (put o x v c ≡ update t o₁ b y w)) ⊎ (update s o c x v ≡ update t o₁ b y w)
-    go true e (inl r) = let z : t ≡ s = eqb-true t s e in inr (cc)
-    go true e (inr r) = absurd r
-    go false e r = absurd r
+op-is s (put t y w b) o c x v q = let (i, r) = one (eqb t s) _ _ q in let z : t ≡ s = eqb-true t s i in inl ((cc), (cc))
+op-is s (get t y a) o c x v q = let r = one (eqb t s) _ _ q .1 in clash (cc)
+op-is s (look t y a) o c x v q = let r = one (eqb t s) _ _ q .1 in clash (cc)
+op-is s (adopt t y a) o c x v q = absurd q
+op-is s (update t o₁ b y w) o c x v q = let (i, r) = one (eqb t s) _ _ q in let z : t ≡ s = eqb-true t s i in inr (cc)
 
 pub came : (s : ℕ) (h : History) (o c x v : ℕ) → Write o c x v ∈ order s h → ((o ≡ s) × put o x v c ∈ h) ⊎ (update s o c x v ∈ h)
 unfolding order

@@ -1,8 +1,8 @@
--- What every run of figure 7 keeps, over its start, a get and an update. Assumes nothing.
+-- What every run of figure 7 keeps, over its start and every step but a put. Assumes nothing.
 use mathlib.Core.Path.{_≡_, refl, sym, ap, subst, _∙_}
 use mathlib.Core.Bool.{Bool, true, false}
-use mathlib.Core.List.{[], _∷_, _++_}
-use mathlib.Core.Logic.{inl, inr, _≢_}
+use mathlib.Core.List.{List, [], _∷_, _++_}
+use mathlib.Core.Logic.{inl, inr, ⊎-elim, _≢_}
 use Prim.Native.Nat.{ℕ, suc, _≤_, _<_}
 use native.Mathlib.Omega.{arith}
 use lib.Dec.{eqb}
@@ -10,19 +10,17 @@ use lib.ListN.{length}
 use borrow.Author.Tests.{eqb-true, eq-eqb}
 use Rattle.clock.specs.Map.{if_then_else_, _⟨_≔_⟩}
 use Rattle.clock.proofs.Maps.{choice, at-same, at-other}
-use Rattle.causal.specs.World.{Set, just, _∪_, Answer, never, wrote, Entry, World, nth, due, waiting, learned, withGet, withUpdate, Behind, CausesApplied, Event, put, get, update, start}
+use Rattle.causal.specs.World.{Set, just, _∪_, Answer, never, wrote, Entry, World, nth, due, waiting, learned, withGet, withUpdate, Behind, CausesApplied, Event, put, get, look, adopt, update, start}
 use Rattle.clock.specs.Lists.{_∈_, Before}
-use Rattle.causal.specs.History.{History, Saw, Write, Read, op, order}
-use Rattle.causal.proofs.Sites.{clash, named, Updates, Issued, Closed, Stored, Site, _↑_, up-more, write-site, read-site}
+use Rattle.causal.specs.History.{History, Names, Saw, Op, Write, Read, op, order}
+use Rattle.causal.proofs.Sites.{clash, Updates, Issued, Closed, Stored, Site, SiteOf, _↑_, up-more, write-site, look-site, learn-site}
 
 -- ## The run
 
 -- each put of `h` depends on earlier puts of `h` alone
 unfoldable pub Past : Updates → History → Type 0
 Past u [] = Unit {0}
-Past u (put o x v c ∷ h) = ((o′ c′ : ℕ) → nth (u o) c .depends o′ c′ → (x′ : ℕ) × (v′ : ℕ) × put o′ x′ v′ c′ ∈ h) × Past u h
-Past u (get s x a ∷ h) = Past u h
-Past u (update s o c x v ∷ h) = Past u h
+Past u (e ∷ h) = ((o x v c o′ c′ : ℕ) → e ≡ put o x v c → nth (u o) c .depends o′ c′ → (x′ : ℕ) × (v′ : ℕ) × put o′ x′ v′ c′ ∈ h) × Past u h
 
 -- the updates are the puts of h; a set has what its site saw, and with each put that put's set; a put's set has all that
 -- its site saw before it, its own earlier puts among that
@@ -34,7 +32,7 @@ pub record Inv (h : History) (W : World) : Type 0 where
   pub saw : (e : Event) (s o c : ℕ) → e ∈ h → Saw e s o c → W .depends s o c
   pub before : (e : Event) (s x v c o′ c′ : ℕ) → Before h e (put s x v c) → Saw e s o′ c′ → nth (W .updates s) c .depends o′ c′
   pub past : Past (W .updates) h
-  pub site : (s : ℕ) → Site (W .updates) (W .depends s) (W .applied s) (W .store s) (order s h)
+  pub site : (s : ℕ) → SiteOf W s (order s h)
 
 -- ## Steps
 
@@ -50,13 +48,9 @@ at-just P o c o′ c′ q p = subst (λ (z : ℕ). P z c′) (sym (q .0)) (subst
 pub put-top : (a : ℕ → ℕ) (o : ℕ) → suc (a o) ≤ (a ↑ o) o
 put-top a o = omega (arith, at-same a o (suc (a o)))
 
-named-learned : (w : Answer) (d : Set) (o c : ℕ) → named w o c → learned w d o c
+named-learned : (w : Answer) (d : Set) (o c : ℕ) → Names w o c → learned w d o c
 named-learned never d o c h = absurd h
 named-learned (wrote v o₁ c₁) d o c h = inl h
-
-saw-get : (t x : ℕ) (a : Answer) (s o c : ℕ) → Saw (get t x a) s o c → (t ≡ s) × named a o c
-saw-get t x never s o c k = absurd k
-saw-get t x (wrote v o′ c′) s o c k = (k .0, (k .1, k .2))
 
 pub inv-start : Inv [] start
 unfolding Past order
@@ -84,58 +78,72 @@ inv-start =
           };
     }
 
-module _ (h : History) (W : World) (t x : ℕ) (I : Inv h W) where
-  abbrev got : Event
-  got = get t x (W .store t x .answer)
+-- ## What is no put
 
-  get-saw : (e : Event) (s o c : ℕ) → e ∈ (got ∷ h) → Saw e s o c → withGet W t x .depends s o c
-  get-saw e s o c (inl q) k =
-      let r = saw-get t x (W .store t x .answer) s o c (subst (λ (z : Event). Saw z s o c) q k) in
-      grow-new (W .depends) t s _ o c (r .0) (named-learned (W .store t x .answer) _ o c (r .1))
-  get-saw e s o c (inr q) k = grow-old (W .depends) t s _ o c (I .saw e s o c q k)
+abbrev pub NoPut : Event → Type 0
+NoPut e = (o x v c : ℕ) → e ≡ put o x v c → ⊥
 
-  get-before : (e : Event) (s y v c o′ c′ : ℕ) → Before (got ∷ h) e (put s y v c) → Saw e s o′ c′ → nth (W .updates s) c .depends o′ c′
-  get-before e s y v c o′ c′ (inl q) k = clash (cc (q .0))
-  get-before e s y v c o′ c′ (inr q) k = I .before e s y v c o′ c′ q k
-
-  get-site : (s : ℕ) → Site (W .updates) (withGet W t x .depends s) (W .applied s) (W .store s) (order s (got ∷ h))
-  unfolding order op
-  get-site s = go (eqb t s) refl
-    where
-      go : (b : Bool) → eqb t s ≡ b
-          → Site (W .updates) (if b then W .depends t ∪ learned (W .store t x .answer) (W .store t x .depends) else W .depends s) (W .applied s) (W .store s)
-          ((if b then Read x (W .store t x .answer) ∷ [] else []) ++ order s h)
-      go true e =
-          subst (λ (z : ℕ). Site (W .updates) (W .depends t ∪ learned (W .store t x .answer) (W .store t x .depends)) (W .applied z) (W .store z) (Read x (W .store t x .answer) ∷ order z h))
-          (eqb-true t s e)
-          (read-site (W .updates) (W .depends t) (W .applied t) (W .store t) (order t h) x (I .site t))
-      go false e = I .site s
-
-  pub inv-get : Inv (got ∷ h) (withGet W t x)
+module _ (h : History) (W : World) (I : Inv h W) (e : Event) (other : NoPut e) (d : ℕ → Set) (a : ℕ → ℕ → ℕ) (m : ℕ → ℕ → Entry)
+    (count : (s : ℕ) → a s s ≡ length (W .updates s)) (more : (s o c : ℕ) → W .depends s o c → d s o c) (new : (s o c : ℕ) → Saw e s o c → d s o c)
+    (site : (s : ℕ) → Site (W .updates) (d s) (a s) (m s) (order s (e ∷ h))) where
+  -- it leaves the updates
+  inv-other : Inv (e ∷ h) (record { depends = d; updates = W .updates; applied = a; store = m })
   unfolding Past
-  inv-get =
+  inv-other =
       record {
-        own-count = I .own-count;
+        own-count = count;
         holds = λ o c k. inr (I .holds o c k);
         closed = I .closed;
         chain = I .chain;
-        saw = get-saw;
-        before = get-before;
-        past = I .past;
-        site = get-site;
+        saw = λ f s o c. ⊎-elim (λ q k. new s o c (subst (λ (z : Event). Saw z s o c) q k)) (λ q k. more s o c (I .saw f s o c q k));
+        before = λ f s y v c o′ c′. ⊎-elim (λ q. absurd (other s y v c (sym (q .0)))) (I .before f s y v c o′ c′);
+        past = ((λ o x v c o′ c′ q. absurd (other o x v c q)), I .past);
+        site = site;
       }
+
+-- ## Look, adopt and get
+
+module _ (h : History) (W : World) (t x : ℕ) (I : Inv h W) where
+  abbrev found : Answer
+  found = W .store t x .answer
+
+  looked : (s : ℕ) → SiteOf W s ((if eqb t s then Read x found ∷ [] else []) ++ order s h)
+  looked s =
+      choice (eqb t s) (λ (l : List Op). SiteOf W s (l ++ order s h))
+      (λ e. subst (λ (z : ℕ). SiteOf W z (Read x found ∷ order z h)) (eqb-true t s e) (look-site x (I .site t)))
+      (λ e. I .site s)
+
+  learns : (l : ℕ → List Op) → ((s : ℕ) → SiteOf W s (l s)) → (s : ℕ) → SiteOf (withGet W t x) s (l s)
+  learns l S s =
+      choice (eqb t s) (λ (d : Set). Site (W .updates) d (W .applied s) (W .store s) (l s))
+      (λ e. subst (λ (z : ℕ). Site (W .updates) (W .depends t ∪ learned found (W .store t x .depends)) (W .applied z) (W .store z) (l z)) (eqb-true t s e)
+      (learn-site x (S t)))
+      (λ e. S s)
+
+  named : (s o c : ℕ) → (t ≡ s) × Names found o c → withGet W t x .depends s o c
+  named s o c k = grow-new (W .depends) t s _ o c (k .0) (named-learned found _ o c (k .1))
+
+  pub inv-look : Inv (look t x found ∷ h) W
+  unfolding order op
+  inv-look = inv-other h W I _ (λ o y v c q. clash (cc)) (W .depends) (W .applied) (W .store) (I .own-count) (λ s o c k. k) (λ s o c k. absurd k) looked
+
+  pub inv-adopt : Inv (adopt t x found ∷ h) (withGet W t x)
+  unfolding order op
+  inv-adopt =
+      inv-other h W I _ (λ o y v c q. clash (cc)) _ (W .applied) (W .store) (I .own-count) (λ s. grow-old (W .depends) t s _) named
+      (learns (λ s. order s h) (I .site))
+
+  pub inv-get : Inv (get t x found ∷ h) (withGet W t x)
+  unfolding order op
+  inv-get =
+      inv-other h W I _ (λ o y v c q. clash (cc)) _ (W .applied) (W .store) (I .own-count) (λ s. grow-old (W .depends) t s _) named
+      (learns (λ s. order s (get t x found ∷ h)) looked)
+
+-- ## Update
 
 module _ (h : History) (W : World) (t o : ℕ) (others : t ≢ o) (there : Behind W t o) (causes : CausesApplied W t o) (I : Inv h W) where
   abbrev brought : Event
   brought = update t o (due W t o) (waiting W t o .key) (waiting W t o .value)
-
-  update-saw : (e : Event) (s o₁ c : ℕ) → e ∈ (brought ∷ h) → Saw e s o₁ c → W .depends s o₁ c
-  update-saw e s o₁ c (inl q) k = absurd (subst (λ (z : Event). Saw z s o₁ c) q k)
-  update-saw e s o₁ c (inr q) k = I .saw e s o₁ c q k
-
-  update-before : (e : Event) (s y v c o′ c′ : ℕ) → Before (brought ∷ h) e (put s y v c) → Saw e s o′ c′ → nth (W .updates s) c .depends o′ c′
-  update-before e s y v c o′ c′ (inl q) k = clash (cc (q .0))
-  update-before e s y v c o′ c′ (inr q) k = I .before e s y v c o′ c′ q k
 
   update-count : (s : ℕ) → withUpdate W t o .applied s s ≡ length (W .updates s)
   update-count s =
@@ -177,7 +185,7 @@ module _ (h : History) (W : World) (t o : ℕ) (others : t ≢ o) (there : Behin
       update-entry
       refl
 
-  update-site : (s : ℕ) → Site (W .updates) (W .depends s) (withUpdate W t o .applied s) (withUpdate W t o .store s) (order s (brought ∷ h))
+  update-site : (s : ℕ) → SiteOf (withUpdate W t o) s (order s (brought ∷ h))
   unfolding order op
   update-site s = go (eqb t s) refl
     where
@@ -194,18 +202,8 @@ module _ (h : History) (W : World) (t o : ℕ) (others : t ≢ o) (there : Behin
       go false e = I .site s
 
   pub inv-update : Inv (brought ∷ h) (withUpdate W t o)
-  unfolding Past
   inv-update =
-      record {
-        own-count = update-count;
-        holds = λ o₁ c k. inr (I .holds o₁ c k);
-        closed = I .closed;
-        chain = I .chain;
-        saw = update-saw;
-        before = update-before;
-        past = I .past;
-        site = update-site;
-      }
+      inv-other h W I brought (λ o₁ y v c q. clash (cc)) (W .depends) _ _ update-count (λ s o₁ c k. k) (λ s o₁ c k. absurd k) update-site
 
 pub issued : (h : History) (W : World) → Inv h W → (o x w c : ℕ) → put o x w c ∈ h → Issued (W .updates) o c
 issued h W I o x w c q = I .site o .closed o c (I .saw (put o x w c) o o c q (refl, refl, refl)) .0

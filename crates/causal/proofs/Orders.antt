@@ -3,7 +3,7 @@ use mathlib.Core.Path.{sym, _≡_, refl, subst}
 use mathlib.Core.Logic.{inl, inr}
 use Prim.Native.Nat.{ℕ, _<_}
 use native.Mathlib.Omega.{arith}
-use Rattle.causal.specs.World.{Step, World, nth, due, Event, put, update, PUT, GET, UPDATE, Run, begin, more}
+use Rattle.causal.specs.World.{Step, World, nth, due, Event, put, update, PUT, GET, LOOK, ADOPT, UPDATE, Run, begin, more}
 use Rattle.clock.specs.Lists.{_∈_, Before}
 use Rattle.causal.specs.History.{History, Cause, direct, deeper, Ordered}
 use Rattle.causal.proofs.Sites.{clash, Issued, later-in}
@@ -21,6 +21,8 @@ labels h W (more {h = h₁} {W = W₁} r s) e (inr q) = labels h₁ W₁ r e q
 put-below : {n k : ℕ} {V₁ V₂ : World} {e : Event} → Step n k V₁ e V₂ → (o x v c : ℕ) → e ≡ put o x v c → o < n
 put-below {n} (PUT t y w p q) o x v c e = subst (λ (z : ℕ). z < n) (cc) p
 put-below (GET t y p q) o x v c e = clash (cc)
+put-below (LOOK t y p q) o x v c e = clash (cc)
+put-below (ADOPT t y p q) o x v c e = clash (cc)
 put-below (UPDATE t o₁ p q d f g) o x v c e = clash (cc)
 
 pub put-site-below : {n k : ℕ} (h : History) (W : World) → Run n k h W → (o x v c : ℕ) → put o x v c ∈ h → o < n
@@ -45,6 +47,8 @@ handed : {n k : ℕ} (h : History) (W : World) → Run n k h W → (s o c x v : 
 handed h W begin s o c x v q = absurd q
 handed h W (more r (PUT t y w p p′)) s o c x v (inl q) = clash (cc)
 handed h W (more r (GET t y p p′)) s o c x v (inl q) = clash (cc)
+handed h W (more r (LOOK t y p p′)) s o c x v (inl q) = clash (cc)
+handed h W (more r (ADOPT t y p p′)) s o c x v (inl q) = clash (cc)
 handed h W (more {h = h₁} {W = W₁} r (UPDATE t o₁ p p′ d f g)) s o c x v (inl q) =
     inl (q, subst (λ (z : Event). z ∈ h₁) (cc) (inv h₁ W₁ r .holds o₁ (due W₁ t o₁) (omega arith, f)))
 handed h W (more {h = h₁} {W = W₁} r e) s o c x v (inr q) = inr (handed h₁ W₁ r s o c x v q)

@@ -1,16 +1,16 @@
 -- While a site lacks a put, some update is enabled there. Assumes nothing.
-use mathlib.Core.Path.{_≡_, refl, ap, subst}
+use mathlib.Core.Path.{_≡_, refl, sym, ap, subst}
 use mathlib.Core.List.{[], _∷_}
 use mathlib.Core.Logic.{_⊎_, inl, inr, ⊎-elim, _≢_}
 use Prim.Native.Nat.{ℕ, _≤_, _<_}
 use native.Mathlib.Omega.{arith}
 use native.Mathlib.Decide.{decLe}
 use Rattle.clock.proofs.Maps.{eq?}
-use Rattle.causal.specs.World.{Behind, CausesApplied, World, nth, due, Event, put, get, update, Run}
+use Rattle.causal.specs.World.{Behind, CausesApplied, World, nth, due, Event, put, get, look, adopt, update, Run}
 use Rattle.clock.specs.Lists.{_∈_}
 use Rattle.causal.specs.History.{CausalRun, History, Lacks}
 use Rattle.causal.proofs.Sites.{clash, Issued}
-use Rattle.causal.proofs.Invariant.{Past, Inv, issued, put-inj}
+use Rattle.causal.proofs.Invariant.{Past, NoPut, Inv, issued, put-inj}
 use Rattle.causal.proofs.Puts.{inv}
 use Rattle.causal.proofs.Handed.{came}
 use Rattle.causal.proofs.Orders.{safety, put-site-below}
@@ -32,6 +32,11 @@ record Some (W : World) (s : ℕ) (h : History) : Type 0 where
 some-more : {W : World} {s : ℕ} {h : History} (e : Event) → Some W s h → Some W s (e ∷ h)
 some-more e k = record { o = k .o; x = k .x; v = k .v; c = k .c; put-there = inr (k .put-there); lacked = k .lacked; ready = k .ready }
 
+-- what is no put changes neither
+skip : {W : World} {s : ℕ} {h : History} {e : Event} → NoPut e → All W s h ⊎ Some W s h → All W s (e ∷ h) ⊎ Some W s (e ∷ h)
+skip {W} {s} {h} {e} other =
+    ⊎-elim (λ (f : All W s h). inl (λ o x v c. ⊎-elim (λ q. absurd (other o x v c (sym q))) (f o x v c))) (λ k. inr (some-more e k))
+
 first : (W : World) (s : ℕ) (h : History) → Past (W .updates) h → All W s h ⊎ Some W s h
 unfolding Past
 first W s [] p = inl (λ o x v c q. absurd q)
@@ -45,17 +50,11 @@ first W s (put t y w b ∷ h) p = go (first W s h (p .1)) (decLe b (W .applied s
     go (inr k) d = inr (some-more (put t y w b) k)
     go (inl f) (yes d) = inl (all f d)
     go (inl f) (no d) =
-        inr (record { o = t; x = y; v = w; c = b; put-there = inl refl; lacked = omega arith; ready = λ o′ c′ k. let r = p .0 o′ c′ k in f o′ (r .0) (r .1) c′ (r .2) })
-first W s (get t y a ∷ h) p =
-    ⊎-elim
-    (λ (f : All W s h). inl (λ o x v c. ⊎-elim (λ q. clash (cc)) (f o x v c)))
-    (λ k. inr (some-more (get t y a) k))
-    (first W s h p)
-first W s (update t o b y w ∷ h) p =
-    ⊎-elim
-    (λ (f : All W s h). inl (λ o x v c. ⊎-elim (λ q. clash (cc)) (f o x v c)))
-    (λ k. inr (some-more (update t o b y w) k))
-    (first W s h p)
+        inr (record { o = t; x = y; v = w; c = b; put-there = inl refl; lacked = omega arith; ready = λ o′ c′ k. let r = p .0 t y w b o′ c′ refl k in f o′ (r .0) (r .1) c′ (r .2) })
+first W s (get t y a ∷ h) p = skip (λ o x v c q. clash (cc)) (first W s h (p .1))
+first W s (look t y a ∷ h) p = skip (λ o x v c q. clash (cc)) (first W s h (p .1))
+first W s (adopt t y a ∷ h) p = skip (λ o x v c q. clash (cc)) (first W s h (p .1))
+first W s (update t o b y w ∷ h) p = skip (λ o₁ x v c q. clash (cc)) (first W s h (p .1))
 
 -- the put found is the next one of its origin, since it depends on all those before it there
 some-next : (h : History) (W : World) (s : ℕ) → Inv h W → (k : Some W s h) → Issued (W .updates) (k .o) (k .c) → k .c ≡ due W s (k .o)

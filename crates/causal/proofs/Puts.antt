@@ -10,21 +10,19 @@ use lib.ListN.{length, length-append}
 use borrow.Author.Tests.{eqb-true}
 use Rattle.clock.specs.Map.{if_then_else_, _⟨_≔_⟩}
 use Rattle.clock.proofs.Maps.{choice, at-same}
-use Rattle.causal.specs.World.{∅, just, _∪_, Update, wrote, Entry, World, nth, withPut, Event, put, get, update, PUT, GET, UPDATE, Run, begin, more}
+use Rattle.causal.specs.World.{∅, just, _∪_, Update, wrote, Entry, World, nth, withPut, Event, put, PUT, GET, LOOK, ADOPT, UPDATE, Run, begin, more}
 use Rattle.clock.specs.Lists.{_∈_, Before}
 use Rattle.causal.specs.History.{History, Saw, Write, op, order}
-use Rattle.causal.proofs.Sites.{next, later-in, Updates, Issued, Closed, Extends, closed-more, Stored, Site, _↑_, le-suc-cases, up-more, write-site, more-site, extends, newest, later-in}
-use Rattle.causal.proofs.Invariant.{Past, Inv, grow-old, grow-new, at-just, put-top, inv-start, inv-get, inv-update, issued, put-inj}
+use Rattle.causal.proofs.Sites.{next, later-in, Updates, Issued, Closed, Extends, closed-more, Stored, Site, SiteOf, _↑_, le-suc-cases, up-more, nth-at, write-site, more-site, extends, newest}
+use Rattle.causal.proofs.Invariant.{Past, Inv, grow-old, grow-new, at-just, put-top, inv-start, inv-look, inv-adopt, inv-get, inv-update, issued, put-inj}
 
 past-more : (u v : Updates) (h : History) → Extends u v → ((o x w c : ℕ) → put o x w c ∈ h → Issued u o c) → Past u h → Past v h
 unfolding Past
-past-more u v [] e k p = tt
-past-more u v (put o x w c ∷ h) e k p = (
-  λ o′ c′ q. p .0 o′ c′ (subst (λ (z : Update). z .depends o′ c′) (e o c (k o x w c (inl refl)) .1) q),
-  past-more u v h e (λ o′ x′ w′ c′ q. k o′ x′ w′ c′ (inr q)) (p .1),
+past-more u v [] x k p = tt
+past-more u v (e ∷ h) x k p = (
+  λ o y w c o′ c′ q m. p .0 o y w c o′ c′ q (subst (λ (z : Update). z .depends o′ c′) (x o c (k o y w c (inl (sym q))) .1) m),
+  past-more u v h x (λ o y w c q. k o y w c (inr q)) (p .1),
 )
-past-more u v (get s x a ∷ h) e k p = past-more u v h e (λ o′ x′ w′ c′ q. k o′ x′ w′ c′ (inr q)) p
-past-more u v (update s o c x w ∷ h) e k p = past-more u v h e (λ o′ x′ w′ c′ q. k o′ x′ w′ c′ (inr q)) p
 
 module _ (h : History) (W : World) (t x w : ℕ) (I : Inv h W) where
   abbrev made : Event
@@ -81,12 +79,13 @@ module _ (h : History) (W : World) (t x w : ℕ) (I : Inv h W) where
       grow-new (W .depends) t s _ o c (r .0) (r .1 ∙ sym (r .0), r .2)
   put-saw e s o c (inr q) k = grow-old (W .depends) t s _ o c (I .saw e s o c q k)
 
+  made-is : (o y v c : ℕ) → put o y v c ≡ made → nth (u′ o) c ≡ up
+  made-is o y v c q = let p = put-inj o y v c t x w (next W t) q in nth-at u′ o t c (next W t) up (p .0) (p .1) put-new
+
   put-before : (e : Event) (s y v c o′ c′ : ℕ) → Before (made ∷ h) e (put s y v c) → Saw e s o′ c′ → nth (u′ s) c .depends o′ c′
   put-before e s y v c o′ c′ (inl q) k =
-      let p = put-inj s y v c t x w (next W t) (q .0) in
-      let d : W .depends s o′ c′ = I .saw e s o′ c′ (q .1) k in
-      at-just (λ o c. nth (u′ o) c .depends o′ c′) t (next W t) s c p
-      (subst (λ (z : Update). z .depends o′ c′) (sym put-new) (subst (λ (z : ℕ). W .depends z o′ c′) (p .0) d))
+      subst (λ (z : Update). z .depends o′ c′) (sym (made-is s y v c (q .0)))
+      (subst (λ (z : ℕ). W .depends z o′ c′) (put-inj s y v c t x w (next W t) (q .0) .0) (I .saw e s o′ c′ (q .1) k))
   put-before e s y v c o′ c′ (inr q) k =
       subst (λ (z : Update). z .depends o′ c′) (sym (ext s c (issued h W I s y v c (later-in h e (put s y v c) q)) .1)) (I .before e s y v c o′ c′ q k)
 
@@ -146,7 +145,7 @@ module _ (h : History) (W : World) (t x w : ℕ) (I : Inv h W) where
       put-entry
       refl)
 
-  put-site : (s : ℕ) → Site u′ (withPut W t x w .depends s) (withPut W t x w .applied s) (withPut W t x w .store s) (order s (made ∷ h))
+  put-site : (s : ℕ) → SiteOf (withPut W t x w) s (order s (made ∷ h))
   unfolding order op
   put-site s = go (eqb t s) refl
     where
@@ -175,9 +174,9 @@ module _ (h : History) (W : World) (t x w : ℕ) (I : Inv h W) where
         saw = put-saw;
         before = put-before;
         past = (
-          λ o c q.
-              let d : W .depends t o c = subst (λ (z : Update). z .depends o c) put-new q in
-              (_, _, I .holds o c (I .site t .closed o c d .0)),
+          λ o y v c o′ c′ q m.
+              let d : W .depends t o′ c′ = subst (λ (z : Update). z .depends o′ c′) (made-is o y v c (sym q)) m in
+              (_, _, I .holds o′ c′ (I .site t .closed o′ c′ d .0)),
           past-more (W .updates) u′ h ext (issued h W I) (I .past),
         );
         site = put-site;
@@ -187,4 +186,6 @@ pub inv : {n k : ℕ} (h : History) (W : World) → Run n k h W → Inv h W
 inv h W begin = inv-start
 inv h W (more {h = h₁} {W = W₁} r (PUT s x v p q)) = inv-put h₁ W₁ s x v (inv h₁ W₁ r)
 inv h W (more {h = h₁} {W = W₁} r (GET s x p q)) = inv-get h₁ W₁ s x (inv h₁ W₁ r)
+inv h W (more {h = h₁} {W = W₁} r (LOOK s x p q)) = inv-look h₁ W₁ s x (inv h₁ W₁ r)
+inv h W (more {h = h₁} {W = W₁} r (ADOPT s x p q)) = inv-adopt h₁ W₁ s x (inv h₁ W₁ r)
 inv h W (more {h = h₁} {W = W₁} r (UPDATE s o p q d e f)) = inv-update h₁ W₁ s o d e f (inv h₁ W₁ r)

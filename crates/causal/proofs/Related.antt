@@ -122,7 +122,7 @@ module _ (S : State) (s x : ℕ) (R : GetReady S s x) (W : World) (A : Abstracts
       tops-same _ ((W .depends s ∪ W .store s x .depends) ∪ just (e .origin) (e .clock)) _
       (λ o c. ⊎-elim (⊎-elim inl (λ q. inr (inr q))) (λ q. inr (inl q)))
       (λ o c. ⊎-elim (λ q. inl (inl q)) (⊎-elim inr (λ q. inl (inr q))))
-      (tops-note _ _ (e .origin) (e .clock) (omega (arith, get-origin S s x R h, R .sound .sites .1))
+      (tops-note _ _ (e .origin) (e .clock) (omega (arith, get-origin S s x R, R .sound .sites .1))
       (tops-join _ _ _ _ (A .depends s (R .site)) (A .store s x (R .site) (R .key))))
 
   pub get-related : Abstracts (r.get S s x .after) (withGet W s x)

@@ -1,4 +1,4 @@
--- One site over the updates of all: what holds of its sets, counts, store and order, and how a write and a read keep it. Assumes nothing.
+-- One site over the updates of all: what holds of its sets, counts, store and order, and how a write, a look and an adopt keep it. Assumes nothing.
 use mathlib.Core.Path.{_≡_, refl, sym, ap, subst, _∙_}
 use mathlib.Core.Bool.{Bool, true, false}
 use mathlib.Core.List.{List, [], _∷_, _++_}
@@ -11,9 +11,9 @@ use lib.Seq.{getD-append-seam}
 use borrow.Author.Tests.{eqb-true}
 use Rattle.clock.specs.Map.{if_then_else_, _⟨_≔_⟩}
 use Rattle.clock.proofs.Maps.{choice, eq?, at-is, at-same}
-use Rattle.causal.specs.World.{Set, _∪_, Update, Answer, never, wrote, Entry, nth, learned, more, ∅, just, World}
+use Rattle.causal.specs.World.{Set, _∪_, Update, Answer, never, wrote, Entry, nth, learned, ∅, World}
 use Rattle.clock.specs.Lists.{_∈_, Before}
-use Rattle.causal.specs.History.{Op, Write, Read, lookup, Reads}
+use Rattle.causal.specs.History.{Names, Op, Write, Read, lookup, Reads}
 
 -- where two constructors would be equal
 pub clash : {A : Type 0} → _≡_ {A = ℕ} 0 1 → A
@@ -34,11 +34,6 @@ blank = record { key = 0; value = 0; depends = ∅ }
 -- the clock of the next put at s
 abbrev pub next : World → (s : ℕ) → ℕ
 next W s = suc (length (W .updates s))
-
--- the put that an answer names
-abbrev pub named : Answer → Set
-named never = ∅
-named (wrote v o c) = just o c
 
 abbrev pub Updates : Type 1
 Updates = ℕ → List Update
@@ -62,7 +57,7 @@ closed-more u v d x k o c h =
 
 -- an entry of the site's store: its put is issued and applied, and of that put's causes the site or the entry knows each
 pub record Stored (u : Updates) (d : Set) (a : ℕ → ℕ) (e : Entry) : Type 0 where
-  pub put-known : (o c : ℕ) → named (e .answer) o c → Issued u o c × (c ≤ a o) × ((o′ c′ : ℕ) → nth (u o) c .depends o′ c′ → (e .depends ∪ d) o′ c′)
+  pub put-known : (o c : ℕ) → Names (e .answer) o c → Issued u o c × (c ≤ a o) × ((o′ c′ : ℕ) → nth (u o) c .depends o′ c′ → (e .depends ∪ d) o′ c′)
   pub closed : Closed u (e .depends)
   pub have : (o c : ℕ) → e .depends o c → c ≤ a o
 
@@ -79,6 +74,10 @@ pub record Site (u : Updates) (d : Set) (a : ℕ → ℕ) (m : ℕ → Entry) (l
   pub once : (o c x v x′ v′ : ℕ) → Before l (Write o c x v) (Write o c x′ v′) → ⊥
   pub reads : Reads l
   pub table : (x : ℕ) → m x .answer ≡ lookup x l
+
+-- that of a world
+abbrev pub SiteOf : World → (s : ℕ) → List Op → Type 0
+SiteOf W s = Site (W .updates) (W .depends s) (W .applied s) (W .store s)
 
 -- ## One more write at a site
 
@@ -112,7 +111,7 @@ stored-more u d d′ a a′ e f g k =
 write-inj : (o c x v o′ c′ x′ v′ : ℕ) → Write o c x v ≡ Write o′ c′ x′ v′ → (o ≡ o′) × (c ≡ c′) × (x ≡ x′) × (v ≡ v′)
 write-inj o c x v o′ c′ x′ v′ e = ((cc), (cc), (cc), (cc))
 
-nth-at : (u : Updates) (o o′ c c′ : ℕ) (up : Update) → o ≡ o′ → c ≡ c′ → nth (u o′) c′ ≡ up → nth (u o) c ≡ up
+pub nth-at : (u : Updates) (o o′ c c′ : ℕ) (up : Update) → o ≡ o′ → c ≡ c′ → nth (u o′) c′ ≡ up → nth (u o) c ≡ up
 nth-at u o o′ c c′ up p q e = cc
 
 module _ (u : Updates) (d d′ : Set) (a : ℕ → ℕ) (m : ℕ → Entry) (l : List Op) (o : ℕ) (up : Update) (e : Entry) (S : Site u d a m l)
@@ -182,7 +181,7 @@ module _ (u : Updates) (d d′ : Set) (a : ℕ → ℕ) (m : ℕ → Entry) (l :
         table = write-table;
       }
 
--- ## A read at a site
+-- ## A look and an adopt at a site
 
 learned-closed : (u : Updates) (d e : Set) (a : ℕ → ℕ) (w : Answer) → Stored u d a (record { answer = w; depends = e }) → Closed u d → Closed u (d ∪ learned w e)
 learned-closed u d e a never k h o c (inl p) = (h o c p .0, λ o′ c′ q. inl (h o c p .1 o′ c′ q))
@@ -197,19 +196,36 @@ learned-have u d e a never k o c p = absurd p
 learned-have u d e a (wrote v o₁ c₁) k o c (inl p) = k .put-known o c p .1
 learned-have u d e a (wrote v o₁ c₁) k o c (inr p) = k .have o c p
 
-pub read-site : (u : Updates) (d : Set) (a : ℕ → ℕ) (m : ℕ → Entry) (l : List Op) (x : ℕ) → Site u d a m l
-    → Site u (d ∪ learned (m x .answer) (m x .depends)) a m (Read x (m x .answer) ∷ l)
-read-site u d a m l x S =
+-- in the order, a read of what the store has
+pub look-site : {u : Updates} {d : Set} {a : ℕ → ℕ} {m : ℕ → Entry} {l : List Op} (x : ℕ) → Site u d a m l → Site u d a m (Read x (m x .answer) ∷ l)
+look-site x S =
     record {
       most = S .most;
-      closed = learned-closed u d (m x .depends) a (m x .answer) (S .stored x) (S .closed);
-      have = λ o c. ⊎-elim (S .have o c) (learned-have u d (m x .depends) a (m x .answer) (S .stored x) o c);
-      stored = λ y. stored-more u d _ a a (m y) (λ o c h. inl h) (λ o c h. h) (S .stored y);
+      closed = S .closed;
+      have = S .have;
+      stored = S .stored;
       seen = λ o c y v. ⊎-elim (λ q. clash (cc)) (S .seen o c y v);
       shown = λ o c h k. inr (S .shown o c h k);
       after = λ o c y v o′ c′ q k. let r = S .after o c y v o′ c′ (⊎-elim (λ e. clash (cc)) (λ e. e) q) k in (r .0, r .1, inr (r .2));
       once = λ o c y v y′ v′. ⊎-elim (λ q. clash (cc)) (S .once o c y v y′ v′);
       reads = (S .table x, S .reads);
+      table = S .table;
+    }
+
+-- in the set, what the entry says
+pub learn-site : {u : Updates} {d : Set} {a : ℕ → ℕ} {m : ℕ → Entry} {l : List Op} (x : ℕ) → Site u d a m l
+    → Site u (d ∪ learned (m x .answer) (m x .depends)) a m l
+learn-site {u} {d} {a} {m} x S =
+    record {
+      most = S .most;
+      closed = learned-closed u d (m x .depends) a (m x .answer) (S .stored x) (S .closed);
+      have = λ o c. ⊎-elim (S .have o c) (learned-have u d (m x .depends) a (m x .answer) (S .stored x) o c);
+      stored = λ y. stored-more u d _ a a (m y) (λ o c h. inl h) (λ o c h. h) (S .stored y);
+      seen = S .seen;
+      shown = S .shown;
+      after = S .after;
+      once = S .once;
+      reads = S .reads;
       table = S .table;
     }
 

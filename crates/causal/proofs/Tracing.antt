@@ -17,21 +17,21 @@ use Rattle.rules.specs.Refusals.{first}
 use Rattle.rules.specs.Steps as r
 use Rattle.rules.specs.Steps.{Numbers, Outcome, opened}
 use Rattle.rules.specs.Drain.{drained, drain}
-use Rattle.rules.specs.Calls.{Call, Open, Put, Get, Deliver, Drain, Cold, Touch, refusals, step, run}
+use Rattle.rules.specs.Calls.{Call, Open, Put, Get, Deliver, Drain, Cold, Touch, Look, Adopt, refusals, step, run}
 use Rattle.laws.specs.Theorems.{Delivers, start, one-more}
 use Rattle.laws.proofs.Ready.{OpenReady, GetReady, open-ready, put-ready, get-ready, drain-ready, cold-ready, touch-ready}
 use Rattle.laws.proofs.Given.{no-eleven, run-cases, run-accepted, run-refused}
 use Rattle.laws.proofs.Keeps.{open-sound}
 use Rattle.laws.proofs.Codes.{accepted-first}
-use Rattle.laws.proofs.Touching.{learn-apart, learnAll-apart, apart-sound, apart-ready}
+use Rattle.laws.proofs.Touching.{learn-apart, apart-ready}
 use Rattle.laws.proofs.Draining.{drained-code, drain-delivers}
 use Rattle.laws.proofs.Turns.{drain-ends}
 use Rattle.laws.proofs.After.{counts-kept}
-use Rattle.causal.specs.World.{Answer, World, Event, put, get, update, Run, begin, more}
+use Rattle.causal.specs.World.{Answer, World, Event, put, get, look, update, LOOK, Run, begin, more}
 use Rattle.causal.specs.History.{History, Lacks}
-use Rattle.causal.specs.Refines.{Abstracts, answer, Refines, found, gotten, after-call, Causal}
+use Rattle.causal.specs.Refines.{Abstracts, Refines, found, looked, after-call, Causal}
 use Rattle.causal.proofs.Meaning.{open-abstracts}
-use Rattle.causal.proofs.Following.{puts, gets, delivers}
+use Rattle.causal.proofs.Following.{puts, gets, looks, adopts, delivers}
 use Rattle.causal.proofs.Handed.{in-right}
 use Rattle.causal.proofs.Progress.{run-causal}
 use Rattle.causal.proofs.Sites.{clash}
@@ -42,7 +42,7 @@ pub record Traced (S : State) (h : History) : Type 1 where
   pub related : Abstracts S world
   pub sound : Sound S
 
--- ## Put, get and deliver
+-- ## Put, get, look, adopt and deliver
 
 -- a call that is figure 7's step, and makes no event where it is refused
 single : {S : State} {h : History} (T : Traced S h) (c : Call) {P : Type 0} → ((n k : ℕ) → c ≢ Open n k)
@@ -67,6 +67,16 @@ module _ {S : State} {h : History} (T : Traced S h) where
   get-traced s x =
       single T (Get s x) (λ n k e. clash (cc)) (λ a z. rw (ne-eqb (a .code) 0 z))
       (gets S (T .sound) (T .world) (T .related) s x)
+
+  look-traced : (s x : ℕ) → Traced (run S (Look s x) .after) (after-call S (Look s x) (run S (Look s x) .answer) h)
+  look-traced s x =
+      single T (Look s x) (λ n k e. clash (cc)) (λ a z. rw (ne-eqb (a .code) 0 z))
+      (looks S (T .sound) (T .world) (T .related) s x)
+
+  adopt-traced : (s x o c : ℕ) → Traced (run S (Adopt s x o c) .after) (after-call S (Adopt s x o c) (run S (Adopt s x o c) .answer) h)
+  adopt-traced s x o c =
+      single T (Adopt s x o c) (λ n k e. clash (cc)) (λ a z. rw (ne-eqb (a .code) 0 z))
+      (adopts S (T .sound) (T .world) (T .related) s x o c)
 
   deliver-traced : (s o : ℕ) → Traced (run S (Deliver s o) .after) (after-call S (Deliver s o) (run S (Deliver s o) .answer) h)
   deliver-traced s o =
@@ -131,20 +141,23 @@ touch-traced {S} {h} T s x now u w =
     subst (λ (o : Outcome). Traced (o .after) (after-call L (Put s x v) (o .answer) (get s x (found S s x) ∷ h))) (run-accepted L (Put s x v) y .1) (put-traced T₁ s x v))
     (λ a z. rw (ne-eqb (a .code) 0 z))
 
-gotten-traced : {S : State} {h : History} → Traced S h → (s m : ℕ) → s < S .n → m ≤ S .k → Traced (r.learnAll S s m) (gotten S s m h)
-unfolding r.learnAll
-gotten-traced T s zero p q = T
-gotten-traced {S} {h} T s (suc m) p q =
-    let e = learnAll-apart S s m in
-    let L = r.learnAll S s m in
-    let R : GetReady L s m = record { sound = apart-sound e (T .sound); site = rw (e .1) p; key = rw (e .1) (omega arith) } in
-    subst (λ (a : Answer). Traced (r.learn L s m) (get s m a ∷ gotten S s m h)) (ap (λ (Q : State). found Q s m) (e .1)) (got-traced (gotten-traced T s m p (omega arith)) s m R)
+-- looks, key by key
+looked-traced : {S : State} {h : History} → Traced S h → (s m : ℕ) → s < S .n → m ≤ S .k → Traced S (looked S s m h)
+looked-traced T s zero p q = T
+looked-traced {S} {h} T s (suc m) p q =
+    let T₁ = looked-traced T s m p (omega arith) in
+    record {
+      world = T₁ .world;
+      leads = subst (λ (a : Answer). Run (S .n) (S .k) (look s m a ∷ looked S s m h) (T₁ .world)) (T₁ .related .answers s m p q) (more (T₁ .leads) (LOOK s m p q));
+      related = T₁ .related;
+      sound = T₁ .sound;
+    }
 
 cold-traced : {S : State} {h : History} → Traced S h → (s now U m : ℕ)
     → Traced (run S (Cold s now U m) .after) (after-call S (Cold s now U m) (run S (Cold s now U m) .answer) h)
 unfolding step r.cold
 cold-traced {S} T s now U m =
-    stepped T (Cold s now U m) (λ z. gotten-traced T s (S .k) (cold-ready S s now U m z .site) (omega arith)) (λ a z. rw (ne-eqb (a .code) 0 z))
+    stepped T (Cold s now U m) (λ z. looked-traced T s (S .k) (cold-ready S s now U m z .site) (omega arith)) (λ a z. rw (ne-eqb (a .code) 0 z))
 
 -- ## Any call
 
@@ -184,6 +197,8 @@ run-traced T (Deliver s o) = deliver-traced T s o
 run-traced T (Drain s b) = draining-traced T s b
 run-traced T (Cold s now U m) = cold-traced T s now U m
 run-traced T (Touch s x now u w) = touch-traced T s x now u w
+run-traced T (Look s x) = look-traced T s x
+run-traced T (Adopt s x o c) = adopt-traced T s x o c
 
 -- ## Demand 3
 

@@ -1,7 +1,7 @@
--- Histories that no store may make: in each, some site has no order. Assumes nothing.
+-- Histories that no store may make: in each, some site has no order; and one that it may make, where every site has one. Assumes nothing.
 use mathlib.Core.List.{[], _∷_}
 use Prim.Native.Nat.{ℕ}
-use Rattle.causal.specs.World.{never, wrote, put, get, update}
+use Rattle.causal.specs.World.{never, wrote, put, get, look, adopt, update}
 use Rattle.clock.specs.Lists.{_∈_}
 use Rattle.causal.specs.History.{History, Ordered}
 
@@ -47,6 +47,25 @@ blind = get 1 5 never ∷ get 1 5 never ∷ update 1 0 1 5 7 ∷ put 0 5 7 1 ∷
 abbrev pub early : History
 early = update 1 0 1 5 7 ∷ get 1 5 (wrote 7 0 1) ∷ put 0 5 7 1 ∷ []
 
+-- 1 looked at 0's put before it was handed it, and overlooked it then
+abbrev pub early-look : History
+early-look = update 1 0 1 5 7 ∷ look 1 5 (wrote 7 0 1) ∷ put 0 5 7 1 ∷ []
+
+abbrev pub blind-look : History
+blind-look = look 1 5 never ∷ update 1 0 1 5 7 ∷ put 0 5 7 1 ∷ []
+
+-- 1 adopted 0's put and made its own, which 2 was handed: 0's has not come there
+abbrev pub adopted-alone : History
+adopted-alone = update 2 1 1 2 9 ∷ put 1 2 9 1 ∷ adopt 1 1 (wrote 7 0 1) ∷ look 1 1 (wrote 7 0 1) ∷ update 1 0 1 1 7 ∷ put 0 1 7 1 ∷ []
+
+-- 1 adopted 0's put and made its own, and 0's has not come there
+abbrev pub adopted-unseen : History
+adopted-unseen = put 1 2 9 1 ∷ adopt 1 1 (wrote 7 0 1) ∷ put 0 1 7 1 ∷ []
+
+-- 1 looked at 0's put, adopted nothing and made its own, which 2 was handed: this is as it should be
+abbrev pub looked-at : History
+looked-at = update 2 1 1 2 9 ∷ put 1 2 9 1 ∷ look 1 1 (wrote 7 0 1) ∷ update 1 0 1 1 7 ∷ put 0 1 7 1 ∷ []
+
 -- 1 was handed a put and got it, and then 0 made it
 abbrev pub prophecy : History
 prophecy = put 0 5 7 1 ∷ get 1 5 (wrote 7 0 1) ∷ update 1 0 1 5 7 ∷ []
@@ -68,5 +87,12 @@ pub record Anomalies : Type 0 where
   -- a put that is got before it was handed, or handed before it was made
   pub too-early : NoOrder early 1
   pub foretold : NoOrder prophecy 1
+  -- a look that answers what is not there, or overlooks what is
+  pub looked-early : NoOrder early-look 1
+  pub looked-blind : NoOrder blind-look 1
+  -- an adopted put is waited for by the adopter's next put, and has come to the adopter before that; a looked-at one is not waited for
+  pub adopted : NoOrder adopted-alone 2
+  pub not-held : NoOrder adopted-unseen 1
+  pub looked : (s : ℕ) → Ordered looked-at s
   -- a put that comes to its site from itself: it would stand twice
   pub from-itself : (h : History) (s c x v : ℕ) → update s s c x v ∈ h → NoOrder h s

@@ -13,8 +13,8 @@ use Rattle.layout.specs.State.{State, lastClock}
 use Rattle.rules.specs.Sound.{place, Retained, Sound}
 use Rattle.rules.specs.Steps.{Numbers, done, Outcome}
 use Rattle.rules.specs.Drain.{drained}
-use Rattle.rules.specs.Calls.{Call, Open, Put, Get, Deliver, Drain, Cold, Touch}
-use Rattle.causal.specs.World.{Set, just, _∪_, Answer, never, wrote, World, nth, waiting, Behind, CausesApplied, Event, put, get, update, Step, Run}
+use Rattle.rules.specs.Calls.{Call, Open, Put, Get, Deliver, Drain, Cold, Touch, Look, Adopt}
+use Rattle.causal.specs.World.{Set, just, _∪_, Answer, never, wrote, World, nth, waiting, Behind, CausesApplied, Event, put, get, look, adopt, update, Step, Run}
 use Rattle.causal.specs.History.{History, Ordered, Lacks}
 
 -- "the greatest clock in the set, and 0 when there is none", for each site, over all eight columns
@@ -48,31 +48,38 @@ pub record Abstracts (S : State) (W : World) : Type 0 where
   pub updates : (o c : ℕ) → o < S .n → Retained S o c → let u = S .updates o (place c) in let w = nth (W .updates o) c in
       (w .key ≡ u .key) × (w .value ≡ u .value) × Tops (u .depends) (w .depends)
 
--- the five numbers that a label says
+-- the five numbers that an answer says, and a label: "all three answer alike"
+abbrev pub told : (key : ℕ) → Answer → Numbers
+told x never = done x 0 0 0
+told x (wrote v o c) = done x o c v
+
 abbrev pub numbers : Event → Numbers
 numbers (put s x v c) = done x s c v
-numbers (get s x never) = done x 0 0 0
-numbers (get s x (wrote v o c)) = done x o c v
+numbers (get s x a) = told x a
+numbers (look s x a) = told x a
+numbers (adopt s x a) = told x a
 numbers (update s o c x v) = done x o c v
 
--- what a get of x at s finds, and the gets of the keys below m, in that order
+-- what a get of x at s finds, and the looks at the keys below m, in that order
 abbrev pub found : State → (s x : ℕ) → Answer
 found S s x = let e = S .store s x in answer (e .value) (e .origin) (e .clock)
 
-abbrev pub gotten : State → (s m : ℕ) → History → History
-gotten S s zero h = h
-gotten S s (suc m) h = get s m (found S s m) ∷ gotten S s m h
+abbrev pub looked : State → (s m : ℕ) → History → History
+looked S s zero h = h
+looked S s (suc m) h = look s m (found S s m) ∷ looked S s m h
 
 -- the history after a call: a refused one makes no event, opening starts a new history, a drain has the events of its deliveries, also before an 11,
--- a cold list its gets, a touch its get and its put
+-- a cold list its looks, a touch its get and its put
 abbrev pub after-call : State → Call → Numbers → History → History
 after-call S (Open n k) a h = if eqb (a .code) 0 then [] else h
 after-call S (Put s x v) a h = if eqb (a .code) 0 then put s x v (a .clock) ∷ h else h
 after-call S (Get s x) a h = if eqb (a .code) 0 then get s x (answer (a .value) (a .site) (a .clock)) ∷ h else h
 after-call S (Deliver s o) a h = if eqb (a .code) 0 then update s o (a .clock) (a .key) (a .value) ∷ h else h
 after-call S (Drain s b) a h = if eqb (a .code) 0 || eqb (a .code) 11 then map (λ (d : Numbers). update s (d .site) (d .clock) (d .key) (d .value)) (drained S s b .made) ++ h else h
-after-call S (Cold s now T m) a h = if eqb (a .code) 0 then gotten S s (S .k) h else h
+after-call S (Cold s now T m) a h = if eqb (a .code) 0 then looked S s (S .k) h else h
 after-call S (Touch s x now u r) a h = if eqb (a .code) 0 then put s x (a .value) (a .clock) ∷ get s x (found S s x) ∷ h else h
+after-call S (Look s x) a h = if eqb (a .code) 0 then look s x (answer (a .value) (a .site) (a .clock)) ∷ h else h
+after-call S (Adopt s x o c) a h = if eqb (a .code) 0 then adopt s x (answer (a .value) (a .site) (a .clock)) ∷ h else h
 
 -- figure 7's step, its label the call's event and the whole answer; its world is that of the table, which is sound
 pub record Steps (S : State) (W : World) (c : Call) (r : Outcome) : Type 1 where
@@ -106,6 +113,10 @@ pub record Follows (S : State) (W : World) (result : Call → Outcome) : Type 1 
   pub puts : (s x v : ℕ) → v < 256 ^ 4 → Refines S W (Put s x v)
       ((s < S .n) × (x < S .k) × (S .applied s s ≢ lastClock) × ((t : ℕ) → t < S .n → S .applied s s < S .applied t s + 16)) (result (Put s x v))
   pub gets : (s x : ℕ) → Refines S W (Get s x) ((s < S .n) × (x < S .k)) (result (Get s x))
+  pub looks : (s x : ℕ) → Refines S W (Look s x) ((s < S .n) × (x < S .k)) (result (Look s x))
+  -- where the entry's answer is of the origin and the clock that are named
+  pub adopts : (s x o c : ℕ) → let a = told x (W .store s x .answer) in
+      Refines S W (Adopt s x o c) ((s < S .n) × (x < S .k) × (a .site ≡ o) × (a .clock ≡ c)) (result (Adopt s x o c))
   pub delivers : (s o : ℕ) → Refines S W (Deliver s o) ((s < S .n) × (o < S .n) × (s ≢ o) × Behind W s o × CausesApplied W s o) (result (Deliver s o))
   pub tells : (s o : ℕ) → Tells S W s o (result (Deliver s o) .answer)
 

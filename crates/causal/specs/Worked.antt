@@ -1,5 +1,5 @@
 -- A short run of figure 7 worked out step by step, and the smallest case of each definition. Assumes nothing.
-use mathlib.Core.Path.{_≡_, refl}
+use mathlib.Core.Path.{_≡_, refl, ap}
 use mathlib.Core.Bool.{true, false}
 use mathlib.Core.List.{[], _∷_, map}
 use mathlib.Core.Logic.{inl, inr}
@@ -9,15 +9,15 @@ use Rattle.clock.specs.Map.{bit}
 use Rattle.clock.specs.Vector.{zeros, note}
 use Rattle.layout.specs.State.{State}
 use Rattle.rules.specs.Steps.{done, refused}
-use Rattle.rules.specs.Calls.{Open, Put, Get, Deliver}
-use Rattle.causal.specs.World.{∅, just, _∪_, never, wrote, World, nth, withPut, withGet, withUpdate, CausesApplied, put, get, update, PUT, GET, UPDATE, start, Run, begin, more}
+use Rattle.rules.specs.Calls.{Open, Put, Get, Deliver, Cold, Look, Adopt}
+use Rattle.causal.specs.World.{∅, just, _∪_, never, wrote, World, nth, withPut, withGet, withUpdate, CausesApplied, put, get, look, adopt, update, PUT, GET, LOOK, ADOPT, UPDATE, start, Run, begin, more}
 use Rattle.causal.specs.History.{History, Cause, direct, deeper, Write, Read, lookup, Reads, op, order}
-use Rattle.causal.specs.Refines.{Within, answer, numbers, after-call}
-use Rattle.causal.specs.Anomalies.{second-first, effect-alone, effect-first, far-effect-first}
+use Rattle.causal.specs.Refines.{Within, answer, numbers, found, looked, after-call}
+use Rattle.causal.specs.Anomalies.{second-first, effect-alone, effect-first, far-effect-first, adopted-alone, adopted-unseen, looked-at}
 
 -- ## A run
 
--- 1 puts, 2 applies it; 0 puts, 1 applies it; 1 gets it; 1 puts again; 2 applies 0's put
+-- 1 puts, 2 applies it; 0 puts, 1 applies it; 1 gets it; 1 puts again; 2 applies 0's put, looks at it and adopts it
 abbrev handed : World
 handed = withUpdate (withPut start 1 3 5) 2 1
 
@@ -36,8 +36,13 @@ sent-again = withPut got 1 2 9
 abbrev caught-up : World
 caught-up = withUpdate sent-again 2 0
 
+abbrev adopted : World
+adopted = withGet caught-up 2 1
+
 abbrev labels : History
-labels = update 2 0 1 1 7 ∷ put 1 2 9 2 ∷ get 1 1 (wrote 7 0 1) ∷ update 1 0 1 1 7 ∷ put 0 1 7 1 ∷ update 2 1 1 3 5 ∷ put 1 3 5 1 ∷ []
+labels =
+    adopt 2 1 (wrote 7 0 1) ∷ look 2 1 (wrote 7 0 1) ∷ update 2 0 1 1 7
+    ∷ put 1 2 9 2 ∷ get 1 1 (wrote 7 0 1) ∷ update 1 0 1 1 7 ∷ put 0 1 7 1 ∷ update 2 1 1 3 5 ∷ put 1 3 5 1 ∷ []
 
 -- a put sends what its site depended on before it; then the site depends on it too
 sends : nth (sent .updates 0) 1 .depends ≡ ∅
@@ -63,6 +68,10 @@ after-get = refl
 sends-all : nth (sent-again .updates 1) 2 .depends ≡ got .depends 1
 sends-all = refl
 
+-- and so does an adopt, of what its site did not depend on before
+after-adopt : (caught-up .depends 2 ≡ ∅) × (adopted .depends 2 ≡ ∅ ∪ (just 0 1 ∪ ∅))
+after-adopt = (refl, refl)
+
 -- 2 has a put of 1, and waits for that of 0; with it, nothing is missing
 waits : CausesApplied sent-again 2 1 → ⊥
 waits f = omega (arith, f 0 1 (inr (inl (refl, refl))))
@@ -73,43 +82,61 @@ ready o c (inl (inr k)) = rw (k .0, k .1) (omega arith)
 ready o c (inr (inl k)) = rw (k .0, k .1) (omega arith)
 ready o c (inr (inr k)) = absurd k
 
-run : Run 3 4 labels caught-up
+run : Run 3 4 labels adopted
 run =
-    more (more (more (more (more (more (more begin
+    more (more (more (more (more (more (more (more (more begin
     (PUT 1 3 5 (omega arith) (omega arith)))
     (UPDATE 2 1 (omega arith) (omega arith) (omega arith) (omega arith) (λ o c k. absurd k)))
     (PUT 0 1 7 (omega arith) (omega arith)))
     (UPDATE 1 0 (omega arith) (omega arith) (omega arith) (omega arith) (λ o c k. absurd k)))
     (GET 1 1 (omega arith) (omega arith)))
     (PUT 1 2 9 (omega arith) (omega arith)))
-    (UPDATE 2 0 (omega arith) (omega arith) (omega arith) (omega arith) (λ o c k. absurd k))
+    (UPDATE 2 0 (omega arith) (omega arith) (omega arith) (omega arith) (λ o c k. absurd k)))
+    (LOOK 2 1 (omega arith) (omega arith)))
+    (ADOPT 2 1 (omega arith) (omega arith))
+
+-- 1 looks at 0's put before it puts, and 2 applies 1's put without 0's
+pub run-looked : Run 3 4 looked-at (withUpdate (withPut (withUpdate (withPut start 0 1 7) 1 0) 1 2 9) 2 1)
+run-looked =
+    more (more (more (more (more begin
+    (PUT 0 1 7 (omega arith) (omega arith)))
+    (UPDATE 1 0 (omega arith) (omega arith) (omega arith) (omega arith) (λ o c k. absurd k)))
+    (LOOK 1 1 (omega arith) (omega arith)))
+    (PUT 1 2 9 (omega arith) (omega arith)))
+    (UPDATE 2 1 (omega arith) (omega arith) (omega arith) (omega arith) (λ o c k. absurd k))
 
 -- ## Histories
 
--- what a site called and what it was handed, as it came
+-- what a site called and what it was handed, as it came; one read of a get, one of a look and none of an adopt
 in-order : order 0 labels ∷ order 1 labels ∷ order 2 labels ∷ order 3 labels ∷ []
     ≡ (Write 0 1 1 7 ∷ [])
     ∷ (Write 1 2 2 9 ∷ Read 1 (wrote 7 0 1) ∷ Write 0 1 1 7 ∷ Write 1 1 3 5 ∷ [])
-    ∷ (Write 0 1 1 7 ∷ Write 1 1 3 5 ∷ [])
+    ∷ (Read 1 (wrote 7 0 1) ∷ Write 0 1 1 7 ∷ Write 1 1 3 5 ∷ [])
     ∷ [] ∷ []
 unfolding order op
 in-order = refl
 
--- a cause: an own earlier put, a put that a get answered, a cause of a cause
+-- a cause: an own earlier put, a put that a get answered or that was adopted, a cause of a cause
 pub own-put : Cause second-first 0 1 0 2
 own-put = direct (put 0 1 7 1) 0 2 9 2 0 1 (inr (inr (inl (refl, inl refl)))) (refl, refl, refl)
 
 pub by-get-alone : Cause effect-alone 0 1 1 1
-by-get-alone = direct (get 1 1 (wrote 7 0 1)) 1 2 9 1 0 1 (inr (inl (refl, inl refl))) (refl, refl, refl)
+by-get-alone = direct (get 1 1 (wrote 7 0 1)) 1 2 9 1 0 1 (inr (inl (refl, inl refl))) (refl, (refl, refl))
 
 pub by-get : Cause effect-first 0 1 1 1
-by-get = direct (get 1 1 (wrote 7 0 1)) 1 2 9 1 0 1 (inr (inr (inl (refl, inl refl)))) (refl, refl, refl)
+by-get = direct (get 1 1 (wrote 7 0 1)) 1 2 9 1 0 1 (inr (inr (inl (refl, inl refl)))) (refl, (refl, refl))
+
+pub by-adopt : Cause adopted-alone 0 1 1 1
+by-adopt = direct (adopt 1 1 (wrote 7 0 1)) 1 2 9 1 0 1 (inr (inl (refl, inl refl))) (refl, (refl, refl))
+
+pub by-adopt-unseen : Cause adopted-unseen 0 1 1 1
+by-adopt-unseen = direct (adopt 1 1 (wrote 7 0 1)) 1 2 9 1 0 1 (inl (refl, inl refl)) (refl, (refl, refl))
 
 pub of-a-cause : Cause far-effect-first 0 1 2 1
 of-a-cause =
     deeper
-    (direct (get 1 1 (wrote 7 0 1)) 1 2 9 1 0 1 (inr (inr (inr (inr (inr (inr (inl (refl, inl refl)))))))) (refl, refl, refl))
-    (direct (get 2 2 (wrote 9 1 1)) 2 3 4 1 1 1 (inr (inr (inl (refl, inl refl)))) (refl, refl, refl))
+    (direct (get 1 1 (wrote 7 0 1)) 1 2 9 1 0 1 (inr (inr (inr (inr (inr (inr (inl (refl, inl refl)))))))) (refl, (refl, refl)))
+    (direct (get 2 2 (wrote 9 1 1)) 2 3 4 1 1 1 (inr (inr (inl (refl, inl refl)))) (refl, (refl, refl)))
 
 -- a single ordinary table answers the newest write of the key, and nothing else
 newest : lookup 5 (Write 2 1 6 8 ∷ Write 1 1 5 9 ∷ Write 0 1 5 7 ∷ []) ∷ lookup 4 (Write 0 1 5 7 ∷ []) ∷ [] ≡ wrote 9 1 1 ∷ never ∷ []
@@ -141,11 +168,23 @@ says : numbers (put 0 1 7 2) ∷ numbers (get 1 1 never) ∷ numbers (get 1 1 (w
     ≡ done 1 0 2 7 ∷ done 1 0 0 0 ∷ done 1 0 2 7 ∷ done 1 0 2 7 ∷ []
 says = refl
 
+says-alike : numbers (look 1 1 never) ∷ numbers (look 1 1 (wrote 7 0 2)) ∷ numbers (adopt 1 1 never) ∷ numbers (adopt 1 1 (wrote 7 0 2)) ∷ []
+    ≡ done 1 0 0 0 ∷ done 1 0 2 7 ∷ done 1 0 0 0 ∷ done 1 0 2 7 ∷ []
+says-alike = refl
+
 module _ (S : State) (h : History) where
   accepted : after-call S (Put 0 1 7) (done 1 0 2 7) h ∷ after-call S (Get 2 1) (done 1 0 2 7) h ∷ after-call S (Deliver 2 0) (done 1 0 2 7) h ∷ after-call S (Open 3 4) (refused 0) h ∷ []
       ≡ (put 0 1 7 2 ∷ h) ∷ (get 2 1 (wrote 7 0 2) ∷ h) ∷ (update 2 0 2 1 7 ∷ h) ∷ [] ∷ []
   accepted = refl
 
-  none : after-call S (Put 0 1 7) (refused 8) h ∷ after-call S (Get 2 9) (refused 6) h ∷ after-call S (Deliver 2 0) (refused 9) h ∷ after-call S (Open 9 4) (refused 3) h ∷ []
-      ≡ h ∷ h ∷ h ∷ h ∷ []
+  accepted-alike : after-call S (Look 2 1) (done 1 0 2 7) h ∷ after-call S (Look 2 1) (done 1 0 0 0) h ∷ after-call S (Adopt 2 1 0 2) (done 1 0 2 7) h ∷ after-call S (Adopt 2 1 0 0) (done 1 0 0 0) h ∷ []
+      ≡ (look 2 1 (wrote 7 0 2) ∷ h) ∷ (look 2 1 never ∷ h) ∷ (adopt 2 1 (wrote 7 0 2) ∷ h) ∷ (adopt 2 1 never ∷ h) ∷ []
+  accepted-alike = refl
+
+  -- a cold list looks at every key
+  listed : S .k ≡ 2 → after-call S (Cold 1 5 1 64) (done 1 0 0 0) h ≡ look 1 1 (found S 1 1) ∷ look 1 0 (found S 1 0) ∷ h
+  listed e = ap (λ (k : ℕ). looked S 1 k h) e
+
+  none : after-call S (Put 0 1 7) (refused 8) h ∷ after-call S (Get 2 9) (refused 6) h ∷ after-call S (Deliver 2 0) (refused 9) h ∷ after-call S (Open 9 4) (refused 3) h ∷ after-call S (Look 2 9) (refused 6) h ∷ after-call S (Adopt 2 1 0 3) (refused 15) h ∷ []
+      ≡ h ∷ h ∷ h ∷ h ∷ h ∷ h ∷ []
   none = refl

@@ -1,4 +1,5 @@
--- Chapar's figure 7: worlds (its tuples, as maps by site), labels, and the rules PUT, GET and UPDATE, without the clients' statements. Assumes nothing.
+-- Chapar's figure 7: worlds (its tuples, as maps by site), labels, and the rules PUT, GET and UPDATE, without the clients' statements;
+-- and GET in two, LOOK and ADOPT. Assumes nothing.
 use mathlib.Core.Path.{_≡_}
 use mathlib.Core.List.{List, [], _∷_, _++_}
 use mathlib.Core.Logic.{_⊎_, _≢_}
@@ -96,12 +97,17 @@ CausesApplied W s o = (o′ c′ : ℕ) → waiting W s o .depends o′ c′ →
 pub data Event : Type 0 where
   put : (site key value clock : ℕ) → Event
   get : (site key : ℕ) → Answer → Event
+  look : (site key : ℕ) → Answer → Event
+  adopt : (site key : ℕ) → Answer → Event
   update : (site origin clock key value : ℕ) → Event
 
 -- one step of n sites and k keys
 pub data Step (n k : ℕ) (W : World) : Event → World → Type 1 where
   PUT : (s x v : ℕ) → s < n → x < k → Step n k W (put s x v (suc (length (W .updates s)))) (withPut W s x v)
   GET : (s x : ℕ) → s < n → x < k → Step n k W (get s x (W .store s x .answer)) (withGet W s x)
+  -- GET's answer and no change; GET's change
+  LOOK : (s x : ℕ) → s < n → x < k → Step n k W (look s x (W .store s x .answer)) W
+  ADOPT : (s x : ℕ) → s < n → x < k → Step n k W (adopt s x (W .store s x .answer)) (withGet W s x)
   UPDATE : (s o : ℕ) → s < n → o < n → s ≢ o → Behind W s o → CausesApplied W s o
       → Step n k W (update s o (due W s o) (waiting W s o .key) (waiting W s o .value)) (withUpdate W s o)
 

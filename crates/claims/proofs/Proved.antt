@@ -6,13 +6,15 @@ use Rattle.layout.specs.State.{the-widths, the-offsets}
 use Rattle.layout.proofs.TableTrips.{bytes-back, state-back, state-fits, bytes-long}
 use Rattle.rules.specs.Cases.{Case, cases, starred}
 use Rattle.rules.specs.TouchCases.{parts, forms, kinds, touches, touched-so, listed-so, words-first}
+use Rattle.rules.specs.LookCases.{looks, looked-so}
 use Rattle.rules.specs.Bounds.{bounds, at-bounds}
 use Rattle.rules.specs.SoundCases.{fact-by-fact}
 use Rattle.laws.proofs.Tested.{sound-tested}
 use Rattle.laws.proofs.After.{accepted-sound, keeps-sound}
 use Rattle.laws.proofs.Given.{codes-listed, follows-order}
 use Rattle.laws.proofs.Records.{touch-back, formed-exactly, age-adds, aged-exactly, kind-exactly, touched-says, kinds-listed, list-filled}
-use Rattle.laws.proofs.Touches.{cold-answers, cold-is-gets, touch-is-both, scan-keeps-coldness}
+use Rattle.laws.proofs.Touches.{cold-answers, touch-is-both, scan-keeps-coldness}
+use Rattle.laws.proofs.Looks.{look-keeps, get-is-both, adopt-is-get, adopt-answers, adopt-never, cold-keeps}
 use Rattle.laws.proofs.Codes.{given-exactly, accepted-exactly, spent-exactly, refused-keeps, refused-zeros, missing-named}
 use Rattle.laws.proofs.Draining.{drain-delivers, drain-prefix, tries-within}
 use Rattle.laws.proofs.Turns.{drain-ends}
@@ -24,10 +26,10 @@ use Rattle.causal.proofs.Counted.{puts-counted}
 use Rattle.causal.proofs.Anomaly.{anomalies}
 use Rattle.demands.proofs.Proved.{demand1, demand2, demand3}
 use Rattle.demands.proofs.Drained.{nothing-delivered}
-use Rattle.demands.proofs.Schedule.{history, causal}
-use Rattle.table.specs.NoSecond.{open-no-second, put-no-second, get-no-second, deliver-no-second, drain-no-second, touch-no-second}
+use Rattle.demands.proofs.Schedule.{history, history-looking, history-adopting, causal}
+use Rattle.table.specs.NoSecond.{open-no-second, put-no-second, get-no-second, look-no-second, adopt-no-second, deliver-no-second, drain-no-second, touch-no-second}
 use Rattle.cold.specs.NoSecond.{cold-no-second}
-use Rattle.forkcanyon.specs.NoSecond.{fc-open-no-second, fc-put-no-second, fc-get-no-second, fc-deliver-no-second, fc-drain-no-second, fc-touch-no-second}
+use Rattle.forkcanyon.specs.NoSecond.{fc-open-no-second, fc-put-no-second, fc-get-no-second, fc-look-no-second, fc-adopt-no-second, fc-deliver-no-second, fc-drain-no-second, fc-touch-no-second}
 use Rattle.forkcanyon.specs.ColdNoSecond.{fc-cold-no-second}
 use Rattle.table.specs.Worked as worked
 use Rattle.forkcanyon.specs.Worked as replies
@@ -48,6 +50,10 @@ ten : length touches ≡ 10
 unfolding touches
 ten = refl
 
+eight : length looks ≡ 8
+unfolding looks
+eight = refl
+
 pub claims : Claims
 claims =
     record {
@@ -60,17 +66,23 @@ claims =
             puts-counted = puts-counted;
             anomalies = anomalies;
             schedule = λ t size. (history t size, causal t size);
+            looking = history-looking;
+            adopting = history-adopting;
           };
       outcomes =
           record {
             opens = open-no-second;
             puts = put-no-second;
             gets = get-no-second;
+            looks = look-no-second;
+            adopts = adopt-no-second;
             delivers = deliver-no-second;
             drains = drain-no-second;
             fc-open = fc-open-no-second;
             fc-put = fc-put-no-second;
             fc-get = fc-get-no-second;
+            fc-look = fc-look-no-second;
+            fc-adopt = fc-adopt-no-second;
             fc-deliver = fc-deliver-no-second;
             touches = touch-no-second;
             lists = cold-no-second;
@@ -88,6 +100,7 @@ claims =
             how-many = how-many;
             touches = (touched-so, ten);
             records = (parts, forms, kinds, listed-so, words-first);
+            looks = (looked-so, eight);
             fact-by-fact = fact-by-fact;
           };
       bytes =
@@ -126,6 +139,15 @@ claims =
             pending = pending-bounded;
             enough = budget-enough;
           };
+      looks =
+          record {
+            look-keeps = look-keeps;
+            get-is-both = get-is-both;
+            adopt-is-get = adopt-is-get;
+            adopt-answers = adopt-answers;
+            adopt-never = adopt-never;
+            cold-keeps = cold-keeps;
+          };
       touches =
           record {
             touch-back = touch-back;
@@ -136,7 +158,6 @@ claims =
             kinds-listed = kinds-listed;
             list-filled = list-filled;
             cold-answers = cold-answers;
-            cold-is-gets = cold-is-gets;
             cold-hosts = cold-hosts;
             list-written = list-written;
             touched-says = touched-says;

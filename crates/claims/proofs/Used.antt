@@ -4,19 +4,22 @@ use mathlib.Core.List.{List, [], _∷_}
 use mathlib.Core.Logic.{inl, inr, ⊎-elim, _≢_}
 use Prim.Native.Nat.{ℕ, suc, _≤_, _<_}
 use native.Mathlib.Omega.{arith}
+use lib.Dec.{eqb}
 use lib.ListN.{length}
 use borrow.Author.Tests.{eq-eqb}
+use Rattle.clock.specs.Map.{if_then_else_}
 use Rattle.clock.specs.Lists.{_∈_}
 use Rattle.clock.proofs.Maps.{true-or-false}
-use Rattle.layout.specs.State.{State, stateOf}
+use Rattle.layout.specs.State.{State, stateOf, lastClock}
 use Rattle.layout.specs.Ranges.{Bytes}
 use Rattle.rules.specs.Sound.{Sound}
-use Rattle.rules.specs.Steps.{Outcome}
+use Rattle.rules.specs.Steps.{Numbers, Outcome}
 use Rattle.rules.specs.Refusals.{get-refusals}
-use Rattle.rules.specs.Calls.{Call, Get, Deliver, Drain, refusals, asks, serve}
-use Rattle.causal.specs.World.{Answer, wrote, World, due, waiting, withPut, withGet, withUpdate, Event, put, get, update, Step, PUT, GET, UPDATE}
-use Rattle.causal.specs.History.{History, Write, Reads, op, order, Ordered, Cause}
-use Rattle.causal.specs.Refines.{Abstracts, Follows, Steps, numbers, Causal}
+use Rattle.rules.specs.Calls.{Call, Get, Adopt, Deliver, Drain, refusals, asks, Served, serve}
+use Rattle.causal.specs.World.{Answer, wrote, World, due, waiting, withPut, withGet, withUpdate, Event, put, get, look, adopt, update, Step, PUT, GET, LOOK, ADOPT, UPDATE, Run, more}
+use Rattle.causal.specs.History.{History, Write, Read, Reads, op, order, Ordered, Cause, direct}
+use Rattle.causal.specs.Refines.{Abstracts, Follows, Refines, numbers, after-call, Causal}
+use Rattle.causal.specs.Anomalies.{looked-at}
 use Rattle.causal.proofs.Sites.{clash}
 use Rattle.causal.proofs.Handed.{came, behind, own, arrived, stands, stands-before}
 use Rattle.demands.specs.Demands.{Delivered, none, next}
@@ -33,6 +36,9 @@ one-delivery {s} (next d o k) z =
     let e = same-bytes d (omega arith) in
     (o, subst (λ (u : List ℕ). serve u (Deliver s o) .answer .code ≡ 0) e k, ap (λ (u : List ℕ). serve u (Deliver s o) .bytes) e)
 
+both : {w : Served} {a : Numbers} {u : List ℕ} → w .answer ≡ a → w .bytes ≡ u → w ≡ record { answer = a; bytes = u }
+both p q = λ i. record { answer = p i; bytes = q i }
+
 of-buffer : (t : List ℕ) → Bytes t → OfBuffer t
 of-buffer t b =
     let one = claims .demands .one t b in
@@ -43,6 +49,12 @@ of-buffer t b =
       zeros = λ s x z. one (Get s x) .zeros 6 (omega arith) (omega arith) (omega arith) z;
       keeps = λ s o z. one (Deliver s o) .keeps (omega arith) (omega arith);
       delivered = λ s d z. one-delivery (one (Drain s d) .delivered s d refl) z;
+      look-answers = λ s x a e. let (p, q) = claims .looks .look-keeps t b s x in both (p ∙ e) q;
+      list-keeps = λ l s now T. claims .looks .cold-keeps t b l s now T;
+      get-both = λ s x a e. sym (λ i. serve (e i .bytes) (Adopt s x (e i .answer .site) (e i .answer .clock))) ∙ claims .looks .get-is-both t b s x;
+      adopts-named = λ s x z. claims .looks .adopt-answers t s x 0 1 z;
+      adopts-all = λ s x z. claims .looks .adopt-is-get t s x 7 lastClock z;
+      none-adopted = λ s x z k. let (p, q) = claims .looks .adopt-never t b s x z k in both p q;
       whole = λ c. one c .whole;
     }
 
@@ -58,60 +70,62 @@ nothing-is-one =
 
 -- ## Demand 2
 
-settled : {S : State} {W : World} {c : Call} {r : Outcome} (Q : Steps S W c r) (e : Event) (W′ : World) → (Q .event ≡ e) × (Q .world ≡ W′)
-    → (r .answer ≡ numbers e) × Abstracts (r .after) W′ × Sound (r .after)
-settled {r = r} Q e W′ p = (Q .answer ∙ ap numbers (p .0), subst (Abstracts (r .after)) (p .1) (Q .abstracts), Q .sound)
+-- the label says which step it was: what it says, and the world it leaves
+abbrev label : World → Event → Event
+label W (put s x v c) = put s x v (suc (length (W .updates s)))
+label W (get s x a) = get s x (W .store s x .answer)
+label W (look s x a) = look s x (W .store s x .answer)
+label W (adopt s x a) = adopt s x (W .store s x .answer)
+label W (update s o c x v) = update s o (due W s o) (waiting W s o .key) (waiting W s o .value)
 
--- the label says which step it was
-put-is : {n k : ℕ} {W W′ : World} {e : Event} → Step n k W e W′ → (s x v c : ℕ) → e ≡ put s x v c
-    → (e ≡ put s x v (suc (length (W .updates s)))) × (W′ ≡ withPut W s x v)
-put-is {W = W} (PUT t y w p q) s x v c k =
-    let a : t ≡ s = cc in
-    let b : y ≡ x = cc in
-    let d : w ≡ v = cc in
-    rw (a, b, d) (refl, refl)
-put-is (GET t y p q) s x v c k = absurd (clash {A = ⊥} (cc))
-put-is (UPDATE t o p q d f g) s x v c k = absurd (clash {A = ⊥} (cc))
+abbrev leaves : World → Event → World
+leaves W (put s x v c) = withPut W s x v
+leaves W (get s x a) = withGet W s x
+leaves W (look s x a) = W
+leaves W (adopt s x a) = withGet W s x
+leaves W (update s o c x v) = withUpdate W s o
 
-get-is : {n k : ℕ} {W W′ : World} {e : Event} → Step n k W e W′ → (s x : ℕ) (a : Answer) → e ≡ get s x a
-    → (e ≡ get s x (W .store s x .answer)) × (W′ ≡ withGet W s x)
-get-is (PUT t y w p q) s x a k = absurd (clash {A = ⊥} (cc))
-get-is (GET t y p q) s x a k =
-    let b : t ≡ s = cc in
-    let d : y ≡ x = cc in
-    rw (b, d) (refl, refl)
-get-is (UPDATE t o p q d f g) s x a k = absurd (clash {A = ⊥} (cc))
-
-update-is : {n k : ℕ} {W W′ : World} {e : Event} → Step n k W e W′ → (s o c x v : ℕ) → e ≡ update s o c x v
-    → (e ≡ update s o (due W s o) (waiting W s o .key) (waiting W s o .value)) × (W′ ≡ withUpdate W s o)
-update-is (PUT t y w p q) s o c x v k = absurd (clash {A = ⊥} (cc))
-update-is (GET t y p q) s o c x v k = absurd (clash {A = ⊥} (cc))
-update-is (UPDATE t i p q d f g) s o c x v k =
-    let a : t ≡ s = cc in
-    let b : i ≡ o = cc in
-    rw (a, b) (refl, refl)
+step-is : {n k : ℕ} {W W′ : World} {e : Event} → Step n k W e W′ → (e ≡ label W e) × (W′ ≡ leaves W e)
+step-is (PUT s x v p q) = (refl, refl)
+step-is (GET s x p q) = (refl, refl)
+step-is (LOOK s x p q) = (refl, refl)
+step-is (ADOPT s x p q) = (refl, refl)
+step-is (UPDATE s o p q d f g) = (refl, refl)
 
 newest : {e f : Event} → e ∷ [] ≡ f ∷ [] → f ≡ e
 newest k = cc
 
+-- an accepted call whose event is known
+settled : {S : State} {W : World} {c : Call} {P : Type 0} {r : Outcome} → Refines S W c P r → P → (e : Event)
+    → after-call S c (r .answer) [] ≡ (if eqb (r .answer .code) 0 then e ∷ [] else [])
+    → (r .answer ≡ numbers (label W e)) × Abstracts (r .after) (leaves W e) × Sound (r .after)
+settled {W = W} {r = r} R p e is =
+    let z = R .exactly .1 p in
+    let Q = R .accepted z in
+    let k : Q .event ≡ e = newest (rw (eq-eqb _ 0 z) at (sym is ∙ Q .call [])) in
+    let i = step-is (Q .step) in (
+      Q .answer ∙ ap numbers (i .0) ∙ ap (λ (f : Event). numbers (label W f)) k,
+      subst (λ (f : Event). Abstracts (r .after) (leaves W f)) k (subst (Abstracts (r .after)) (i .1) (Q .abstracts)),
+      Q .sound,
+    )
+
 of-table : (t : List ℕ) (W : World) → Follows (stateOf t) W (λ c. let r = serve t c in record { answer = r .answer; after = stateOf (r .bytes) }) → OfTable t W
 of-table t W F =
     record {
-      puts = λ s x v b p q l f.
-          let R = F .puts s x v b in
-          let z = R .exactly .1 (p, q, omega arith, f) in
-          let Q = R .accepted z in
-          settled Q _ _ (put-is (Q .step) s x v _ (newest (rw (eq-eqb _ 0 z) at (Q .call []))));
-      gets = λ s x p q.
-          let R = F .gets s x in
-          let z = R .exactly .1 (p, q) in
-          let Q = R .accepted z in
-          settled Q _ _ (get-is (Q .step) s x _ (newest (rw (eq-eqb _ 0 z) at (Q .call []))));
-      delivers = λ s o p q d b f.
-          let R = F .delivers s o in
-          let z = R .exactly .1 (p, q, d, b, f) in
-          let Q = R .accepted z in
-          settled Q _ _ (update-is (Q .step) s o _ _ _ (newest (rw (eq-eqb _ 0 z) at (Q .call []))));
+      puts = λ s x v b p q l f. settled (F .puts s x v b) (p, q, omega arith, f) (put s x v _) refl;
+      gets = λ s x p q. settled (F .gets s x) (p, q) (get s x _) refl;
+      looks = λ s x p q. settled (F .looks s x) (p, q) (look s x _) refl;
+      adopts = λ s x v o c p q e. let (a, A, D) = settled (F .adopts s x o c) (p, q, rw e, rw e) (adopt s x _) refl in (rw e at a, A, D);
+      adopts-none = λ s x p q e. let (a, A, D) = settled (F .adopts s x 0 0) (p, q, rw e, rw e) (adopt s x _) refl in (rw e at a, A, D);
+      changed = λ s x v o c o′ c′ e d.
+          let R = F .adopts s x o′ c′ in
+          let no : serve t (Adopt s x o′ c′) .answer .code ≢ 0 = λ z. let k = R .exactly .0 z in d (cc (e, k .2)) (cc (e, k .3)) in
+          (no, R .refused no);
+      changed-none = λ s x o c e d.
+          let R = F .adopts s x o c in
+          let no : serve t (Adopt s x o c) .answer .code ≢ 0 = λ z. let k = R .exactly .0 z in d (sym (rw e at (k .2))) (sym (rw e at (k .3))) in
+          (no, R .refused no);
+      delivers = λ s o p q d b f. settled (F .delivers s o) (p, q, d, b, f) (update s o _ _ _) refl;
       last = λ s x v b e. let R = F .puts s x v b in ((λ z. R .exactly .0 z .2 e), R .refused (λ z. R .exactly .0 z .2 e));
       nine = λ s o p q d f. F .tells s o .nine .1 (p, q, d, f);
       ten = λ s o p q d b f.
@@ -136,10 +150,19 @@ of-table t W F =
 
 -- ## Demand 3
 
--- a get answers the write that stands right before it
-reads-newest : (s o c x v : ℕ) (a : Answer) (e : Event) (g : History) → op s e ≡ Write o c x v ∷ [] → Reads (order s (get s x a ∷ e ∷ g)) → a ≡ wrote v o c
-unfolding order op
-reads-newest s o c x v a e g k r = rw (eq-eqb s s refl, k, eq-eqb x x refl) at (r) .0
+-- a get and a look answer the write that stands right before them
+reads-newest : (s o c x v : ℕ) (a : Answer) (f e : Event) (g : History) → op s f ≡ Read x a ∷ [] → op s e ≡ Write o c x v ∷ []
+    → Reads (order s (f ∷ e ∷ g)) → a ≡ wrote v o c
+unfolding order
+reads-newest s o c x v a f e g j k r = rw (j, k, eq-eqb x x refl) at (r) .0
+
+got : (s x : ℕ) (a : Answer) → op s (get s x a) ≡ Read x a ∷ []
+unfolding op
+got s x a = rw (eq-eqb s s refl)
+
+looked : (s x : ℕ) (a : Answer) → op s (look s x a) ≡ Read x a ∷ []
+unfolding op
+looked s x a = rw (eq-eqb s s refl)
 
 -- the causes of what came last stand before it
 cause : (g : History) (s o c x v o′ c′ : ℕ) → s ≢ o′ → Ordered (update s o c x v ∷ g) s → Cause (update s o c x v ∷ g) o′ c′ o c
@@ -150,19 +173,37 @@ cause g s o c x v o′ c′ d O k =
     let q = behind (Write o c x v) (order s g) (Write o′ c′ x′ v′) (Write o c x v) (rw (arrived s o c x v) at b) in
     (x′, v′, ⊎-elim (λ p. absurd (d (sym (p .0)))) (λ p. p) (came s g o′ c′ x′ v′ q))
 
+-- an adopt is of what stands in the world, and an update stands there
+adopts-newest : {n k s o c x v : ℕ} {a : Answer} {g : History} {W : World} → Run n k (adopt s x a ∷ update s o c x v ∷ g) W → a ≡ wrote v o c
+adopts-newest {s = s} {o} {c} {x} {a = a} (more (more {W = W} R q) p) =
+    let (e, d) = step-is q in
+    let f = step-is p .0 in
+    let y : waiting W s o .key ≡ x = cc in
+    let k : a ≡ withUpdate W s o .store s x .answer = cc in
+    k ∙ rw (eq-eqb s s refl, eq-eqb _ x y) (cc)
+
 of-history : (t : List ℕ) (h : History) → Causal (stateOf t) (λ c. serve t c .answer) h → OfHistory t h
 of-history t h C =
     record {
       own-put = λ g s x v c a e.
           let q : put s x v c ∈ h = rw e (inr (inl refl)) in
-          reads-newest s s c x v a (put s x v c) g (own s s c x v refl) (subst (λ (h : History). Reads (order s h)) e (C .orders s (counts s x v c q .0) .reads));
+          reads-newest s s c x v a (get s x a) (put s x v c) g (got s x a) (own s s c x v refl) (at (counts s x v c q .0) e .reads);
+      own-look = λ g s x v c a e.
+          let q : put s x v c ∈ h = rw e (inr (inl refl)) in
+          reads-newest s s c x v a (look s x a) (put s x v c) g (looked s x a) (own s s c x v refl) (at (counts s x v c q .0) e .reads);
       handed-put = λ g s o x v c a l e.
-          reads-newest s o c x v a (update s o c x v) g (arrived s o c x v) (subst (λ (h : History). Reads (order s h)) e (C .orders s l .reads));
+          reads-newest s o c x v a (get s x a) (update s o c x v) g (got s x a) (arrived s o c x v) (at l e .reads);
+      handed-look = λ g s o x v c a l e.
+          reads-newest s o c x v a (look s x a) (update s o c x v) g (looked s x a) (arrived s o c x v) (at l e .reads);
       made = λ g s o c x v l e. behind (update s o c x v) g (put o x v c) (update s o c x v) (at l e .put-first o c x v (inl refl));
       once = λ g s o c x v x′ v′ l e q.
           at l e .once o c x′ v′ x v
           (stands-before s (Write o c x′ v′) (Write o c x v) (update s o c x′ v′) (update s o c x v) (arrived s o c x′ v′) (arrived s o c x v) _ (inl (refl, q)));
       caused = λ g s o c x v o′ c′ l d e k. cause g s o c x v o′ c′ d (at l e) (subst (λ (h : History). Cause h o′ c′ o c) e k);
+      adopted = λ g s o c x v y w o′ c′ l d e i.
+          let (x′, v′, q) = cause _ s o c x v o′ c′ d (at l e) (direct (adopt o y (wrote w o′ c′)) o x v c o′ c′ (inr (inl (refl, i))) (refl, (refl, refl))) in
+          (x′, v′, ⊎-elim (λ r. clash (cc)) (λ r. r) q);
+      adopts-handed = λ g s o x v c a e. let (W, R, A) = C .runs in adopts-newest (subst (λ (h : History). Run (stateOf t .n) (stateOf t .k) h W) e R);
       counted = λ o x v c q. counts o x v c q .2;
       live = λ s o x v c l d e. C .live s o x v c l (rw e (inl refl)) ((λ z. d (sym z)), λ y w q. never-handed (subst (λ (h : History). update s o c y w ∈ h) e q));
       drains = λ s o b x v c d e z. C .drains s b o x v c z (rw e (inl refl));
@@ -178,6 +219,11 @@ of-history t h C =
     never-handed (inl q) = clash (cc)
     never-handed (inr q) = q
 
+-- in looked-at, 2 has 1's put alone
+no-cause : Ordered looked-at 2 → Cause looked-at 0 1 1 1 → ⊥
+unfolding order op
+no-cause O k = ⊎-elim (λ p. p .1) (λ p. p) (O .caused 1 1 2 9 0 1 (inl refl) k .2)
+
 -- ## All
 
 pub uses : Uses
@@ -190,5 +236,7 @@ uses =
       none =
           let A = claims .histories .anomalies in
           (A .invented, A .repeated, A .own-put, A .got, A .deeper, A .alone, A .overlooked, A .unseen, A .too-early, A .foretold);
+      none-looked = let A = claims .histories .anomalies in (A .looked-early, A .looked-blind, A .adopted, A .not-held);
+      looked = λ k. no-cause (claims .histories .anomalies .looked 2) k;
       itself = claims .histories .anomalies .from-itself _ 0 1 5 7 (inl refl);
     }

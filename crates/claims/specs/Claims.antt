@@ -7,19 +7,21 @@ use lib.ListN.{length}
 use Rattle.clock.specs.Vector.{Vector}
 use Rattle.layout.specs.State.{table, stateOf, the-widths, the-offsets}
 use Rattle.layout.specs.Theorems.{BytesBack, StateBack, StateFits, BytesLong}
-use Rattle.rules.specs.Calls.{Open, Put, Get, Deliver, Drain, Touch, Served, Listed, serve}
+use Rattle.rules.specs.Calls.{Open, Put, Get, Deliver, Drain, Touch, Look, Adopt, Served, Listed, serve}
 use Rattle.rules.specs.Cases.{Case, cases, Computed}
 use Rattle.rules.specs.TouchCases.{parts, forms, kinds, touches, listed-so, words-first}
+use Rattle.rules.specs.LookCases.{looks}
 use Rattle.rules.specs.Bounds.{bounds}
 use Rattle.rules.specs.SoundCases.{Fact, tables, answered, expected}
 use Rattle.laws.specs.Theorems.{SoundTested, AcceptedSound, KeepsSound, RefusedKeeps, CodesListed, FollowsOrder, GivenExactly, AcceptedExactly, SpentExactly, RefusedZeros, MissingNamed, DrainDelivers, DrainRises, DrainEnds, TriesWithin, TriesBounded, PendingBounded, BudgetEnough, DrainPrefix}
-use Rattle.laws.specs.Touches.{TouchBack, FormedExactly, AgeAdds, AgedExactly, KindExactly, KindsListed, ListFilled, ColdAnswers, ColdIsGets, TouchedSays, TouchIsBoth, ScanKeepsColdness}
+use Rattle.laws.specs.Touches.{TouchBack, FormedExactly, AgeAdds, AgedExactly, KindExactly, KindsListed, ListFilled, ColdAnswers, TouchedSays, TouchIsBoth, ScanKeepsColdness}
+use Rattle.laws.specs.Looks.{LookKeeps, GetIsBoth, AdoptIsGet, AdoptAnswers, AdoptNever, ColdKeeps}
 use Rattle.causal.specs.World.{Set, World, Run}
 use Rattle.causal.specs.History.{History, AppliedExactly, CausalRun}
-use Rattle.causal.specs.Anomalies.{Anomalies}
+use Rattle.causal.specs.Anomalies.{looked-at, Anomalies}
 use Rattle.causal.specs.Refines.{Tops, SameAnswers, PutsCounted, Causal}
 use Rattle.demands.specs.Demands.{Demand1, Demand2, Demand3, NothingDelivered, play}
-use Rattle.demands.specs.Schedule.{schedule, by-hand}
+use Rattle.demands.specs.Schedule.{schedule, by-hand, looking, adopting, adopted}
 use Rattle.table.specs.NoSecond as table
 use Rattle.table.specs.Worked as worked
 use Rattle.forkcanyon.specs.Host.{mostTries}
@@ -40,7 +42,7 @@ pub record Demands : Type 1 where
   pub one : Demand1
   -- .. also a drain that delivered nothing, whatever it answers
   pub nothing-delivered : NothingDelivered
-  -- put, get and deliver are figure 7's steps, from every sound table
+  -- put, get and deliver are figure 7's steps, and look and adopt the two halves of its get, from every sound table
   pub two : Demand2
   -- every site has its order, and nothing accepted is held back for good, from every opening
   pub three : Demand3
@@ -54,22 +56,29 @@ pub record OfHistories : Type 1 where
   -- an order has exactly the puts applied at its site, and a history only puts that the table counts
   pub applied-exactly : AppliedExactly
   pub puts-counted : PutsCounted
-  -- histories that no store may make have no order
+  -- histories that no store may make have no order; what was looked at is not waited for, what was adopted is
   pub anomalies : Anomalies
   -- document 01's schedule, on any buffer, has the history that a reader would write, and is causal
   pub schedule : (t : List ℕ) → length t ≡ table .width → let p = play (serve t (Open 3 4) .bytes) [] schedule in
       (p .1 ≡ by-hand) × Causal (stateOf (p .0)) (λ c. serve (p .0) c .answer) by-hand
+  -- so for a put after a look, which is handed on at once, and a put after an adopt, which is not
+  pub looking : (t : List ℕ) → length t ≡ table .width → play (serve t (Open 3 4) .bytes) [] looking .1 ≡ looked-at
+  pub adopting : (t : List ℕ) → length t ≡ table .width → play (serve t (Open 3 4) .bytes) [] adopting .1 ≡ adopted
 
 -- no second outcome: of each public call's promise
 pub record NoSecondOutcome : Type 0 where
   pub opens : (n k : ℕ) → table.NoSecond (Open n k) × table.One (Open n k)
   pub puts : (s x v : ℕ) → table.NoSecond (Put s x v) × table.One (Put s x v)
   pub gets : (s x : ℕ) → table.NoSecond (Get s x) × table.One (Get s x)
+  pub looks : (s x : ℕ) → table.NoSecond (Look s x) × table.One (Look s x)
+  pub adopts : (s x o c : ℕ) → table.NoSecond (Adopt s x o c) × table.One (Adopt s x o c)
   pub delivers : (s o : ℕ) → table.NoSecond (Deliver s o) × table.One (Deliver s o)
   pub drains : (s b : ℕ) → table.NoSecond (Drain s b) × table.One (Drain s b)
   pub fc-open : (n k : ℕ) → host.NoSecond (Open n k) × host.One (Open n k)
   pub fc-put : (s x v : ℕ) → host.NoSecond (Put s x v) × host.One (Put s x v)
   pub fc-get : (s x : ℕ) → host.NoSecond (Get s x) × host.One (Get s x)
+  pub fc-look : (s x : ℕ) → host.NoSecond (Look s x) × host.One (Look s x)
+  pub fc-adopt : (s x o c : ℕ) → host.NoSecond (Adopt s x o c) × host.One (Adopt s x o c)
   pub fc-deliver : (s o : ℕ) → host.NoSecond (Deliver s o) × host.One (Deliver s o)
   pub touches : (s x hour u r : ℕ) → table.NoSecond (Touch s x hour u r) × table.One (Touch s x hour u r)
   pub lists : (t l : List ℕ) (s hour T : ℕ)
@@ -97,6 +106,8 @@ pub record OfCases : Type 0 where
   -- touch and the cold list; records, kinds and the list at their edges
   pub touches : Computed touches × (length touches ≡ 10)
   pub records : Says parts × Says forms × Says kinds × Says listed-so × Says words-first
+  -- look and adopt
+  pub looks : Computed looks × (length looks ≡ 8)
   -- for each fact of soundness a table that breaks it, and a neighbour that is sound
   pub fact-by-fact : (f : Fact) → map answered (tables f) ≡ map expected (tables f)
 
@@ -155,6 +166,20 @@ pub record OfDrain : Type 0 where
   pub pending : PendingBounded
   pub enough : BudgetEnough
 
+-- "Split get in two"
+pub record OfLooks : Type 0 where
+  -- a look answers as get and changes nothing
+  pub look-keeps : LookKeeps
+  -- a get is a look and at once the adopt of what it answered
+  pub get-is-both : GetIsBoth
+  -- an accepted adopt is the get, and answers the origin and the clock that it was given
+  pub adopt-is-get : AdoptIsGet
+  pub adopt-answers : AdoptAnswers
+  -- of a never-written key (0, 0) is adopted, which changes nothing
+  pub adopt-never : AdoptNever
+  -- a cold list changes no byte of the table
+  pub cold-keeps : ColdKeeps
+
 -- touch records, the cold list and touch
 pub record OfTouches : Type 0 where
   -- a record's bits, put together and taken apart; "any other form is malformed"
@@ -168,9 +193,8 @@ pub record OfTouches : Type 0 where
   -- the keys of a kind, each once and ascending; the list is the cold ones, and zeros
   pub kinds-listed : KindsListed
   pub list-filled : ListFilled
-  -- an accepted list counts three kinds, and is a get of every key; over the host edge it writes the list, or leaves it
+  -- an accepted list counts three kinds; over the host edge it writes the list, or leaves it
   pub cold-answers : ColdAnswers
-  pub cold-is-gets : ColdIsGets
   pub cold-hosts : ColdHosts
   pub list-written : ListWritten
   -- the record that a touch puts
@@ -195,5 +219,6 @@ pub record Claims : Type 1 where
   pub soundness : OfSoundness
   pub codes : OfCodes
   pub drain : OfDrain
+  pub looks : OfLooks
   pub touches : OfTouches
   pub listings : OfListings

@@ -10,13 +10,14 @@ use Rattle.clock.specs.Lists.{_∈_}
 use Rattle.layout.specs.State.{table, stateOf, lastClock}
 use Rattle.layout.specs.Ranges.{Bytes}
 use Rattle.rules.specs.Sound.{Sound}
-use Rattle.rules.specs.Steps.{refused}
-use Rattle.rules.specs.Calls.{Call, Open, Put, Get, Deliver, Drain, asks, serve}
+use Rattle.rules.specs.Steps.{Numbers, refused, done}
+use Rattle.rules.specs.Calls.{Call, Open, Put, Get, Look, Adopt, Deliver, Drain, asks, serve, serve-list}
+use Rattle.rules.specs.Refusals.{first}
 use Rattle.laws.specs.Theorems.{Clear, needed}
-use Rattle.causal.specs.World.{Answer, never, wrote, World, due, waiting, withPut, withGet, withUpdate, Behind, CausesApplied, put, get, update}
+use Rattle.causal.specs.World.{Answer, never, wrote, World, due, waiting, withPut, withGet, withUpdate, Behind, CausesApplied, put, get, look, adopt, update}
 use Rattle.causal.specs.History.{History, Cause, Lacks}
 use Rattle.causal.specs.Refines.{Abstracts, numbers, after-call}
-use Rattle.causal.specs.Anomalies.{NoOrder, forged, twice, second-first, effect-alone, effect-first, far-effect-first, forgotten, blind, early, prophecy}
+use Rattle.causal.specs.Anomalies.{NoOrder, forged, twice, second-first, effect-alone, effect-first, far-effect-first, forgotten, blind, early, prophecy, early-look, blind-look, adopted-alone, adopted-unseen, looked-at}
 use Rattle.demands.specs.Demands.{play}
 
 -- demand 1: any buffer
@@ -32,18 +33,37 @@ pub record OfBuffer (t : List ℕ) : Type 0 where
   -- a drain that made one delivery left what that delivery leaves
   pub delivered : (s b : ℕ) → serve t (Drain s b) .answer .clock ≡ 1
       → (o : ℕ) × (serve t (Deliver s o) .answer .code ≡ 0) × (serve t (Drain s b) .bytes ≡ serve t (Deliver s o) .bytes)
+  -- whatever a get answers, a look does, and leaves the table, as a list does; the adopt of that answer is the get, a refused one too
+  pub look-answers : (s x : ℕ) (a : Numbers) → serve t (Get s x) .answer ≡ a → serve t (Look s x) ≡ record { answer = a; bytes = t }
+  pub list-keeps : (l : List ℕ) (s now T : ℕ) → serve-list t l s now T .bytes ≡ t
+  pub get-both : (s x : ℕ) (a : Numbers) → serve t (Look s x) ≡ record { answer = a; bytes = t } → serve t (Adopt s x (a .site) (a .clock)) ≡ serve t (Get s x)
+  -- an adopt answers what was named, and is the get; (0, 0) is accepted and changes nothing
+  pub adopts-named : (s x : ℕ) → let a = serve t (Adopt s x 0 1) .answer in a .code ≡ 0 → a ≡ done x 0 1 (stateOf t .store s x .value)
+  pub adopts-all : (s x : ℕ) → serve t (Adopt s x 7 lastClock) .answer .code ≡ 0 → serve t (Adopt s x 7 lastClock) ≡ serve t (Get s x)
+  pub none-adopted : (s x : ℕ) → first (asks t (Look s x)) ≡ 0 → stateOf t .store s x .clock ≡ 0 → serve t (Adopt s x 0 0) ≡ record { answer = done x 0 0 0; bytes = t }
   -- the buffer stays as long
   pub whole : (c : Call) → (length (serve t c .bytes) ≡ length t) × Bytes (serve t c .bytes)
 
 -- demand 2: a sound table and its world
 pub record OfTable (t : List ℕ) (W : World) : Type 1 where
-  -- put, get and deliver answer as figure 7's labels say, and leave figure 7's worlds
+  -- put, get, look and deliver answer as figure 7's labels say, and leave figure 7's worlds
   pub puts : (s x v : ℕ) → v < 256 ^ 4 → s < stateOf t .n → x < stateOf t .k → stateOf t .applied s s < lastClock
       → ((s′ : ℕ) → s′ < stateOf t .n → stateOf t .applied s s < stateOf t .applied s′ s + 16)
       → let r = serve t (Put s x v) in
       (r .answer ≡ numbers (put s x v (suc (length (W .updates s))))) × Abstracts (stateOf (r .bytes)) (withPut W s x v) × Sound (stateOf (r .bytes))
   pub gets : (s x : ℕ) → s < stateOf t .n → x < stateOf t .k → let r = serve t (Get s x) in
       (r .answer ≡ numbers (get s x (W .store s x .answer))) × Abstracts (stateOf (r .bytes)) (withGet W s x) × Sound (stateOf (r .bytes))
+  pub looks : (s x : ℕ) → s < stateOf t .n → x < stateOf t .k → let r = serve t (Look s x) in
+      (r .answer ≡ numbers (look s x (W .store s x .answer))) × Abstracts (stateOf (r .bytes)) W × Sound (stateOf (r .bytes))
+  -- an adopt of the entry's put, or of (0, 0) where it has none, takes on what a get does; of any other put it leaves the table
+  pub adopts : (s x v o c : ℕ) → s < stateOf t .n → x < stateOf t .k → W .store s x .answer ≡ wrote v o c → let r = serve t (Adopt s x o c) in
+      (r .answer ≡ numbers (adopt s x (wrote v o c))) × Abstracts (stateOf (r .bytes)) (withGet W s x) × Sound (stateOf (r .bytes))
+  pub adopts-none : (s x : ℕ) → s < stateOf t .n → x < stateOf t .k → W .store s x .answer ≡ never → let r = serve t (Adopt s x 0 0) in
+      (r .answer ≡ numbers (adopt s x never)) × Abstracts (stateOf (r .bytes)) (withGet W s x) × Sound (stateOf (r .bytes))
+  pub changed : (s x v o c o′ c′ : ℕ) → W .store s x .answer ≡ wrote v o c → (o ≡ o′ → c ≡ c′ → ⊥) → let r = serve t (Adopt s x o′ c′) in
+      (r .answer .code ≢ 0) × (stateOf (r .bytes) ≡ stateOf t)
+  pub changed-none : (s x o c : ℕ) → W .store s x .answer ≡ never → (o ≡ 0 → c ≡ 0 → ⊥) → let r = serve t (Adopt s x o c) in
+      (r .answer .code ≢ 0) × (stateOf (r .bytes) ≡ stateOf t)
   pub delivers : (s o : ℕ) → s < stateOf t .n → o < stateOf t .n → s ≢ o → Behind W s o → CausesApplied W s o → let r = serve t (Deliver s o) in
       (r .answer ≡ numbers (update s o (due W s o) (waiting W s o .key) (waiting W s o .value)))
       × Abstracts (stateOf (r .bytes)) (withUpdate W s o) × Sound (stateOf (r .bytes))
@@ -65,13 +85,21 @@ pub record OfTable (t : List ℕ) (W : World) : Type 1 where
 pub record OfHistory (t : List ℕ) (h : History) : Type 1 where
   -- a site's get after its own put answers that put
   pub own-put : (g : History) (s x v c : ℕ) (a : Answer) → h ≡ get s x a ∷ put s x v c ∷ g → a ≡ wrote v s c
+  -- and so does its look
+  pub own-look : (g : History) (s x v c : ℕ) (a : Answer) → h ≡ look s x a ∷ put s x v c ∷ g → a ≡ wrote v s c
   -- and after it was handed a put answers that
   pub handed-put : (g : History) (s o x v c : ℕ) (a : Answer) → s < stateOf t .n → h ≡ get s x a ∷ update s o c x v ∷ g → a ≡ wrote v o c
+  pub handed-look : (g : History) (s o x v c : ℕ) (a : Answer) → s < stateOf t .n → h ≡ look s x a ∷ update s o c x v ∷ g → a ≡ wrote v o c
   -- what a site was handed was put before, is not handed again, and its causes stand before it
   pub made : (g : History) (s o c x v : ℕ) → s < stateOf t .n → h ≡ update s o c x v ∷ g → put o x v c ∈ g
   pub once : (g : History) (s o c x v x′ v′ : ℕ) → s < stateOf t .n → h ≡ update s o c x v ∷ g → update s o c x′ v′ ∈ g → ⊥
   pub caused : (g : History) (s o c x v o′ c′ : ℕ) → s < stateOf t .n → s ≢ o′ → h ≡ update s o c x v ∷ g → Cause h o′ c′ o c
       → (x′ : ℕ) × (v′ : ℕ) × update s o′ c′ x′ v′ ∈ g
+  -- what its maker adopted before it, from then on, is among them
+  pub adopted : (g : History) (s o c x v y w o′ c′ : ℕ) → s < stateOf t .n → s ≢ o′ → h ≡ update s o c x v ∷ put o x v c ∷ g → adopt o y (wrote w o′ c′) ∈ g
+      → (x′ : ℕ) × (v′ : ℕ) × update s o′ c′ x′ v′ ∈ g
+  -- what it adopts right after it was handed a put is that put
+  pub adopts-handed : (g : History) (s o x v c : ℕ) (a : Answer) → h ≡ adopt s x a ∷ update s o c x v ∷ g → a ≡ wrote v o c
   -- the table counts each put
   pub counted : (o x v c : ℕ) → put o x v c ∈ h → c ≤ stateOf t .applied o o
   -- after one put, a delivery to each other site is accepted, and after a drain there that answers 0 it has the put
@@ -94,5 +122,8 @@ pub record Uses : Type 1 where
   -- no order for a put invented or repeated; before an own put, a put got, a cause of a cause; without its cause; overlooked; early
   pub none : NoOrder forged 1 × NoOrder twice 1 × NoOrder second-first 1 × NoOrder effect-first 2 × NoOrder far-effect-first 3 × NoOrder effect-alone 2
       × NoOrder forgotten 0 × NoOrder blind 1 × NoOrder early 1 × NoOrder prophecy 1
+  -- for a look too early or blind, and without a put adopted; a put looked at is no cause
+  pub none-looked : NoOrder early-look 1 × NoOrder blind-look 1 × NoOrder adopted-alone 2 × NoOrder adopted-unseen 1
+  pub looked : Cause looked-at 0 1 1 1 → ⊥
   -- nor for one from its own site
   pub itself : NoOrder (update 0 0 1 5 7 ∷ put 0 5 7 1 ∷ []) 0

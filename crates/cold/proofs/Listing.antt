@@ -1,5 +1,5 @@
 -- The promise of a cold list, where it is refused and where its step is taken. Assumes nothing.
-use mathlib.Core.Path.{_≡_, sym, ap, _∙_}
+use mathlib.Core.Path.{_≡_, refl, sym, ap, _∙_}
 use mathlib.Core.List.{List}
 use mathlib.Core.Logic.{_≢_}
 use Prim.Native.Nat.{ℕ}
@@ -33,10 +33,10 @@ module _ (t l : List ℕ) (s hour T : ℕ) where
     pub lists : Lists t l s
     lists = let R = ready .1 in record { size = ready .0; sound = R .sound; site = R .site; room = R .room }
 
-    pub lists-step : (a : Numbers) (t′ l′ : List ℕ) → length t′ ≡ length t → Bytes t′ → Stepped (stateOf t) s hour T (record { answer = a; bytes = t′; list = l′ })
-        → record { answer = a; bytes = t′; list = l′ } ≡ serve-list t l s hour T
+    pub lists-step : (a : Numbers) (l′ : List ℕ) → Bytes t → Stepped (stateOf t) s hour T (record { answer = a; bytes = t; list = l′ })
+        → record { answer = a; bytes = t; list = l′ } ≡ serve-list t l s hour T
     unfolding serve-list step cold
-    lists-step a t′ l′ same b P =
-        let w = serves-step t (Cold s hour T (length l)) a t′ same b z (P .answer) (P .after) in
+    lists-step a l′ b P =
+        let w = serves-step t (Cold s hour T (length l)) a t refl b z (P .answer) refl in
         let n : serve t (Cold s hour T (length l)) .answer .code ≡ 0 = sym (ap (λ (o : Served). o .answer .code) w) ∙ ap (λ (o : Numbers). o .code) (P .answer) in
         rw (eq-eqb _ 0 n) (λ i. record { answer = w i .answer; bytes = w i .bytes; list = P .list i })

@@ -1,7 +1,7 @@
--- The promise of a cold list, and what its gets rely on. Assumes nothing.
+-- The promise of a cold list, and what its step relies on. Assumes nothing.
 use mathlib.Core.Path.{_≡_}
 use mathlib.Core.List.{List}
-use Prim.Native.Nat.{ℕ, _≤_, _<_}
+use Prim.Native.Nat.{ℕ, _<_}
 use lib.ListN.{length}
 use Rattle.layout.specs.State.{State, stateOf, table}
 use Rattle.rules.specs.Sound.{Sound}
@@ -19,13 +19,6 @@ listed r t l = record { answer = numbersOf r; bytes = t; list = l }
 abbrev pub Promise : (t list : List ℕ) → (s hour threshold : ℕ) → Listed → Type 0
 Promise t l s hour T o = o ≡ serve-list t l s hour T
 
--- a sound table, one of its sites and no more keys than it has
-pub record Gets (t : List ℕ) (s k : ℕ) : Type 0 where
-  pub size : length t ≡ table .width
-  pub sound : Sound (stateOf t)
-  pub site : s < stateOf t .n
-  pub keys : k ≤ stateOf t .k
-
 -- a sound table, one of its sites, and a list of 64 bytes
 pub record Lists (t l : List ℕ) (s : ℕ) : Type 0 where
   pub size : length t ≡ table .width
@@ -33,8 +26,7 @@ pub record Lists (t l : List ℕ) (s : ℕ) : Type 0 where
   pub site : s < stateOf t .n
   pub room : length l ≡ 64
 
--- the step's answer, table and list
+-- the step's answer and list
 pub record Stepped (S : State) (s hour T : ℕ) (o : Listed) : Type 0 where
   pub answer : o .answer ≡ cold S s hour T .answer
-  pub after : stateOf (o .bytes) ≡ cold S s hour T .after
   pub list : o .list ≡ coldList S s hour T

@@ -7,11 +7,10 @@ ghost use Rattle.layout.specs.State.{stateOf, table};
 ghost use Rattle.layout.specs.Records.{entryOf};
 ghost use Rattle.rules.specs.Touch as kinds;
 ghost use Rattle.rules.specs.Touch.{age, aged, kindOf, kind, kindsAt, padded};
-ghost use Rattle.rules.specs.Steps.{learnAll};
 ghost use Rattle.rules.specs.Refusals.{first, cold-words};
 ghost use Rattle.rules.specs.Calls.{Cold, asks};
 ghost use Rattle.table.specs.Answers.{codeOf};
-ghost use Rattle.cold.specs.Listing.{listed, Promise, Gets, Lists, Stepped};
+ghost use Rattle.cold.specs.Listing.{listed, Promise, Lists, Stepped};
 ghost use Rattle.cold.specs.Kinds.{meant};
 ghost use Rattle.cold.specs.Tally.{Tally, Small};
 use layout::Record;
@@ -143,18 +142,6 @@ fn tally(t: &[u8], list: &mut [u8], s: usize, k: usize, hour: u16, threshold: u1
     c
 }
 
-// A get of each key at s, ascending.
-fn get_all(t: &mut [u8], s: usize, k: usize)
-    requires { ⌜ Gets (now t) s k ⌝ }
-    ensures { λ _. ⌜ stateOf (now (t .exit)) ≡ learnAll (stateOf (now (t .entry))) s k ⌝ }
-{
-    let mut x = 0;
-    while x < k {
-        table::get_step(t, s, x);
-        x += 1;
-    }
-}
-
 // 14: the threshold, the list's size and the hour.
 pub fn words_refusal(hour: usize, threshold: usize, room: usize) -> Refusal
     ensures { λ r. ⌜ codeOf r ≡ first (cold-words hour threshold room) ⌝ }
@@ -184,15 +171,14 @@ fn cold_refusal(t: &[u8], s: usize, hour: usize, threshold: usize, room: usize) 
     }
 }
 
-// The list and the counts, and a get of every key.
-fn cold_step(t: &mut [u8], list: &mut [u8], s: usize, hour: u16, threshold: u16) -> Answer
+// The list and the counts: a look at every key.
+fn cold_step(t: &[u8], list: &mut [u8], s: usize, hour: u16, threshold: u16) -> Answer
     requires { ⌜ Lists (now t) (now list) s ⌝ }
-    ensures { λ r. ⌜ Stepped (stateOf (now (t .entry))) s hour threshold (listed r (now (t .exit)) (now (list .exit))) ⌝ }
+    ensures { λ r. ⌜ Stepped (stateOf (now (t .entry))) s hour threshold (listed r (now (t .entry)) (now (list .exit))) ⌝ }
 {
     let h = layout::read_header(t);
     let k = layout::wide_byte(h.k);
     let c = tally(t, list, s, k, hour, threshold);
-    get_all(t, s, k);
     Answer::Done {
         key: c.listed as u8,
         site: c.ahead as u8,
@@ -201,8 +187,8 @@ fn cold_step(t: &mut [u8], list: &mut [u8], s: usize, hour: u16, threshold: u16)
     }
 }
 
-pub fn cold(t: &mut [u8], list: &mut [u8], s: usize, hour: usize, threshold: usize) -> Answer
-    ensures { λ r. ⌜ Promise (now (t .entry)) (now (list .entry)) s hour threshold (listed r (now (t .exit)) (now (list .exit))) ⌝ }
+pub fn cold(t: &[u8], list: &mut [u8], s: usize, hour: usize, threshold: usize) -> Answer
+    ensures { λ r. ⌜ Promise (now (t .entry)) (now (list .entry)) s hour threshold (listed r (now (t .entry)) (now (list .exit))) ⌝ }
 {
     let why = cold_refusal(t, s, hour, threshold, list.len());
     match why {

@@ -10,7 +10,7 @@ use Rattle.layout.specs.Ranges.{Bytes, Fits}
 use Rattle.layout.proofs.TableTrips.{state-back}
 use Rattle.rules.specs.Steps.{Numbers, Outcome, opened}
 use Rattle.rules.specs.Refusals.{first}
-use Rattle.rules.specs.Calls.{Call, Open, Put, Get, Deliver, Drain, refusals, beside, step, run, asks, Served, serve}
+use Rattle.rules.specs.Calls.{Call, Open, Put, Get, Look, Adopt, Deliver, Drain, refusals, beside, step, run, asks, Served, serve}
 use Rattle.laws.specs.Theorems.{Clear}
 use Rattle.laws.proofs.Ready.{OpenReady, open-ready}
 use Rattle.laws.proofs.Given.{first-given, first-avoids, first-clear, asks-proper, beside-code}
@@ -23,7 +23,7 @@ use Rattle.causal.proofs.Following.{follows}
 use Rattle.causal.proofs.Tracing.{played, played-causal}
 use Rattle.demands.specs.Demands.{Delivered, none, Answered, Demand1, Demand2, Demand3}
 use Rattle.layout.proofs.Whole.{state-bytes}
-use Rattle.laws.proofs.Fitting.{Sized, put-sized, get-sized, deliver-sized, open-fits}
+use Rattle.laws.proofs.Fitting.{Sized, put-sized, get-sized, look-sized, adopt-sized, deliver-sized, open-fits}
 use Rattle.laws.proofs.Serving.{served, asks-clear, serve-step, serve-refused, serve-accepted}
 use Rattle.laws.proofs.Outcomes.{outcome, outcome-is}
 use Rattle.demands.proofs.Serving.{serve-state, play-is}
@@ -91,11 +91,16 @@ demand2 t b h D = ((meaning S, meaning-abstracts S), on-bytes)
     on-bytes W A =
         let f = follows S D W A in
         record {
-          puts = λ s x v l. subst (Refines S W (Put s x v) _) (same (Put s x v) (put-sized s x v l)) (f .puts s x v l);
-          gets = λ s x. subst (Refines S W (Get s x) _) (same (Get s x) (get-sized s x)) (f .gets s x);
-          delivers = λ s o. subst (Refines S W (Deliver s o) _) (same (Deliver s o) (deliver-sized s o)) (f .delivers s o);
+          puts = λ s x v l. at (Put s x v) (put-sized s x v l) (f .puts s x v l);
+          gets = λ s x. at (Get s x) (get-sized s x) (f .gets s x);
+          looks = λ s x. at (Look s x) (look-sized s x) (f .looks s x);
+          adopts = λ s x o c. at (Adopt s x o c) (adopt-sized s x o c) (f .adopts s x o c);
+          delivers = λ s o. at (Deliver s o) (deliver-sized s o) (f .delivers s o);
           tells = λ s o. subst (λ (r : Outcome). Tells S W s o (r .answer)) (same (Deliver s o) (deliver-sized s o)) (f .tells s o);
         }
+      where
+        at : (c : Call) → Sized c → {P : Type 0} → Refines S W c P (run S c) → Refines S W c P (outcome (serve t c))
+        at c z {P} = subst (Refines S W c P) (same c z)
 
 -- ## Demand 3
 

@@ -1,7 +1,7 @@
--- Document 01's schedule, and the history that a reader would write of it. Assumes nothing.
+-- Document 01's schedule and two more lists of calls, and the histories that a reader would write of them. Assumes nothing.
 use mathlib.Core.List.{List, [], _∷_}
-use Rattle.rules.specs.Calls.{Call, Put, Get, Deliver, Drain}
-use Rattle.causal.specs.World.{wrote, put, get, update}
+use Rattle.rules.specs.Calls.{Call, Put, Get, Look, Adopt, Deliver, Drain}
+use Rattle.causal.specs.World.{wrote, put, get, look, adopt, update}
 use Rattle.causal.specs.History.{History}
 
 unfoldable pub schedule : List Call
@@ -12,3 +12,14 @@ unfoldable pub by-hand : History
 by-hand =
     get 2 1 (wrote 7 0 1) ∷ update 2 1 1 2 9 ∷ update 2 0 1 1 7
     ∷ put 1 2 9 1 ∷ get 1 1 (wrote 7 0 1) ∷ update 1 0 1 1 7 ∷ put 0 1 7 1 ∷ []
+
+-- 1 looks at 0's put and then puts, and its put is delivered to 2: `looked-at` (crates/causal/specs/Anomalies)
+unfoldable pub looking : List Call
+looking = Put 0 1 7 ∷ Deliver 1 0 ∷ Look 1 1 ∷ Put 1 2 9 ∷ Deliver 2 1 ∷ []
+
+-- 1 looks at it, adopts it and then puts: the delivery to 2 is refused
+unfoldable pub adopting : List Call
+adopting = Put 0 1 7 ∷ Deliver 1 0 ∷ Look 1 1 ∷ Adopt 1 1 0 1 ∷ Put 1 2 9 ∷ Deliver 2 1 ∷ []
+
+unfoldable pub adopted : History
+adopted = put 1 2 9 1 ∷ adopt 1 1 (wrote 7 0 1) ∷ look 1 1 (wrote 7 0 1) ∷ update 1 0 1 1 7 ∷ put 0 1 7 1 ∷ []

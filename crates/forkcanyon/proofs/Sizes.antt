@@ -10,7 +10,7 @@ use borrow.Author.Tests.{eq-eqb, ne-eqb}
 use Rattle.clock.proofs.Maps.{eq?}
 use Rattle.layout.specs.State.{table, stateOf}
 use Rattle.rules.specs.Refusals.{Refusals, first}
-use Rattle.rules.specs.Calls.{Call, Open, Put, Get, Deliver, Drain, Cold, Touch, words, asks, Served, serve, serve-list}
+use Rattle.rules.specs.Calls.{Call, Open, Put, Get, Deliver, Drain, Cold, Touch, Look, Adopt, words, asks, Served, serve, serve-list}
 use Rattle.laws.proofs.Given.{Avoids, words-proper, no-one, beside-code}
 use Rattle.laws.proofs.Codes.{step-code}
 use Rattle.laws.proofs.Serving.{asks-long, serve-step, serve-refused, serve-short}
@@ -47,6 +47,8 @@ words-one c = unsized-one (words c) (words-proper c .0) (avoids c)
     avoids (Drain s b) = tt
     avoids (Cold s now T m) = omega arith
     avoids (Touch s x now u w) = omega arith
+    avoids (Look s x) = tt
+    avoids (Adopt s x o c) = tt
 
 -- a call on a buffer of the right size never answers 1
 never : (t : List ℕ) (c : Call) → length t ≡ table .width → serve t c .answer .code ≢ 1

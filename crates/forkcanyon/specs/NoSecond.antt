@@ -2,7 +2,7 @@
 use mathlib.Core.Path.{_≡_, refl, sym, _∙_}
 use mathlib.Core.List.{List}
 use Prim.Native.Nat.{ℕ, min}
-use Rattle.rules.specs.Calls.{Call, Open, Put, Get, Deliver, Drain, Touch}
+use Rattle.rules.specs.Calls.{Call, Open, Put, Get, Deliver, Drain, Touch, Look, Adopt}
 use Rattle.forkcanyon.specs.Host.{Hosted, host, Promise, mostTries}
 
 abbrev pub NoSecond : Call → Type 0
@@ -31,3 +31,9 @@ fc-drain-no-second s b = no-second (Drain s (min b mostTries))
 
 pub fc-touch-no-second : (site key hour toucher tier : ℕ) → NoSecond (Touch site key hour toucher tier) × One (Touch site key hour toucher tier)
 fc-touch-no-second s x hour u r = no-second (Touch s x hour u r)
+
+pub fc-look-no-second : (site key : ℕ) → NoSecond (Look site key) × One (Look site key)
+fc-look-no-second s x = no-second (Look s x)
+
+pub fc-adopt-no-second : (site key origin clock : ℕ) → NoSecond (Adopt site key origin clock) × One (Adopt site key origin clock)
+fc-adopt-no-second s x o c = no-second (Adopt s x o c)

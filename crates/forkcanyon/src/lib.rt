@@ -3,7 +3,7 @@
 ghost use mathlib.Core.Path.{_≡_};
 ghost use Prim.Native.Nat.{min};
 ghost use lib.ListN.{length};
-ghost use Rattle.rules.specs.Calls.{Open, Put, Get, Deliver, Drain, Touch};
+ghost use Rattle.rules.specs.Calls.{Open, Put, Get, Deliver, Drain, Touch, Look, Adopt};
 ghost use Rattle.forkcanyon.specs.Host.{replyBytes, replyOf, left, Promise, mostTries};
 ghost use Rattle.numbers.specs.Five.{fiveOf};
 ghost use Rattle.forkcanyon.specs.Told.{Replied, behind};
@@ -153,6 +153,41 @@ pub extern "C" fn fc_touch(
         hour as usize,
         toucher as usize,
         tier as usize,
+    );
+    answer(reply, numbers::numbers_of(a))
+}
+
+#[no_mangle]
+pub extern "C" fn fc_look(site: u64, key: u64, table: &mut [u8], reply: &mut [u8]) -> u32
+    ensures { λ r. ⌜ Promise (now (table .entry)) (now (reply .entry)) (Look site key) (left r (now (table .exit)) (now (reply .exit))) ⌝ }
+{
+    if reply.len() != Reply::BYTES {
+        return Reply::WRONG_SIZE;
+    }
+    let a = table::look::look(table, site as usize, key as usize);
+    answer(reply, numbers::numbers_of(a))
+}
+
+#[no_mangle]
+pub extern "C" fn fc_adopt(
+    site: u64,
+    key: u64,
+    origin: u64,
+    clock: u64,
+    table: &mut [u8],
+    reply: &mut [u8],
+) -> u32
+    ensures { λ r. ⌜ Promise (now (table .entry)) (now (reply .entry)) (Adopt site key origin clock) (left r (now (table .exit)) (now (reply .exit))) ⌝ }
+{
+    if reply.len() != Reply::BYTES {
+        return Reply::WRONG_SIZE;
+    }
+    let a = table::look::adopt(
+        table,
+        site as usize,
+        key as usize,
+        origin as usize,
+        clock as usize,
     );
     answer(reply, numbers::numbers_of(a))
 }

@@ -4,19 +4,17 @@ use mathlib.Core.Bool.{false}
 use mathlib.Core.List.{[]}
 use mathlib.Core.Logic.{⊎-elim, _≢_}
 use Prim.Native.Nat.{ℕ}
-use lib.Dec.{eqb}
-use Rattle.clock.proofs.Maps.{choice}
 use Rattle.layout.specs.State.{State}
 use Rattle.rules.specs.Sound.{Sound}
-use Rattle.rules.specs.Steps.{Outcome, put, get, learn, deliver, touch, cold}
+use Rattle.rules.specs.Steps.{Outcome, put, get, look, deliver, touch, cold}
 use Rattle.rules.specs.Refusals.{first}
 use Rattle.rules.specs.Drain.{turn, drained, drain}
-use Rattle.rules.specs.Calls.{Call, Open, Put, Get, Deliver, Drain, Cold, Touch, refusals, step, run}
+use Rattle.rules.specs.Calls.{Call, Open, Put, Get, Deliver, Drain, Cold, Touch, Look, Adopt, refusals, step, run}
 use Rattle.laws.specs.Theorems.{AcceptedSound, KeepsSound}
-use Rattle.laws.proofs.Ready.{open-ready, put-ready, get-ready, deliver-ready, drain-ready, cold-ready, touch-ready}
+use Rattle.laws.proofs.Ready.{open-ready, put-ready, get-ready, adopt-ready, deliver-ready, drain-ready, cold-ready, touch-ready}
 use Rattle.laws.proofs.Given.{run-cases, run-accepted}
 use Rattle.laws.proofs.Keeps.{open-sound, put-sound, get-sound, deliver-sound}
-use Rattle.laws.proofs.Touching.{Apart, learn-apart, learnAll-apart, cold-sound, touch-sound}
+use Rattle.laws.proofs.Touching.{Apart, learn-apart, touch-sound}
 use Rattle.laws.proofs.Draining.{by-deliveries}
 
 -- what holds of the table and of the one after a step
@@ -40,14 +38,16 @@ drained-sound S s b =
     b S (turn (S .n) s 0 false) [] 0
 
 pub step-sound : (S : State) (c : Call) → first (refusals S c) ≡ 0 → Sound (step S c .after)
-unfolding step drain refusals
+unfolding step look cold drain refusals
 step-sound S (Open n k) z = open-sound n k (open-ready n k .0 z)
 step-sound S (Put s x v) z = put-sound S s x v (put-ready S s x .0 z)
 step-sound S (Get s x) z = get-sound S s x (get-ready S s x .0 z .sound)
 step-sound S (Deliver s o) z = deliver-sound S s o (deliver-ready S s o .0 z)
 step-sound S (Drain s b) z = drained-sound S s b (drain-ready S s .0 z .sound)
-step-sound S (Cold s now T m) z = cold-sound S s now T (cold-ready S s now T m z .sound)
+step-sound S (Cold s now T m) z = cold-ready S s now T m z .sound
 step-sound S (Touch s x now u r) z = touch-sound S s x now u r (touch-ready S s x now u r z .put)
+step-sound S (Look s x) z = get-ready S s x .0 z .sound
+step-sound S (Adopt s x o c) z = get-sound S s x (adopt-ready S s x o c .0 z .get .sound)
 
 pub accepted-sound : AcceptedSound
 accepted-sound S c z =
@@ -75,14 +75,16 @@ apart-counts : (S T : State) → Apart S T → SameCounts S T
 apart-counts S T p = (ap (λ (R : State). R .n) (p .1), ap (λ (R : State). R .k) (p .1))
 
 step-counts : (S : State) (c : Call) → ((n k : ℕ) → c ≢ Open n k) → SameCounts S (step S c .after)
-unfolding step put get learn deliver drain touch cold
+unfolding step put get look deliver drain touch cold
 step-counts S (Open n k) h = absurd (h n k refl)
 step-counts S (Put s x v) h = (refl, refl)
-step-counts S (Get s x) h = choice (eqb (S .store s x .clock) 0) (SameCounts S) (λ e. (refl, refl)) (λ e. (refl, refl))
+step-counts S (Get s x) h = apart-counts S _ (learn-apart S s x)
 step-counts S (Deliver s o) h = (refl, refl)
 step-counts S (Drain s b) h = drained-counts S s b
-step-counts S (Cold s now T m) h = apart-counts S _ (learnAll-apart S s (S .k))
+step-counts S (Cold s now T m) h = (refl, refl)
 step-counts S (Touch s x now u r) h = apart-counts S _ (learn-apart S s x)
+step-counts S (Look s x) h = (refl, refl)
+step-counts S (Adopt s x o c) h = apart-counts S _ (learn-apart S s x)
 
 -- only open changes them
 pub counts-kept : (S : State) (c : Call) → ((n k : ℕ) → c ≢ Open n k) → SameCounts S (run S c .after)

@@ -8,10 +8,10 @@ use Rattle.clock.proofs.Maps.{le?}
 use Rattle.clock.proofs.Below.{least-is}
 use Rattle.clock.proofs.Bits.{mask-below, bit-mask}
 use Rattle.layout.specs.State.{State}
-use Rattle.rules.specs.Steps.{Outcome, refused, put, get, deliver, touch, cold}
+use Rattle.rules.specs.Steps.{Outcome, refused, put, get, look, deliver, touch, cold}
 use Rattle.rules.specs.Refusals.{first, missing}
 use Rattle.rules.specs.Drain.{Drained, drained, drain}
-use Rattle.rules.specs.Calls.{Call, Open, Put, Get, Deliver, Drain, Cold, Touch, refusals, beside, step, run}
+use Rattle.rules.specs.Calls.{Call, Open, Put, Get, Deliver, Drain, Cold, Touch, Look, Adopt, refusals, beside, step, run}
 use Rattle.laws.specs.Theorems.{Clear, needed, Enough, Spent, GivenExactly, AcceptedExactly, SpentExactly, RefusedKeeps, RefusedZeros, LowestMissing, MissingNamed}
 use Rattle.laws.proofs.Ready.{OpenReady, DrainReady, open-ready, deliver-ten, drain-ready}
 use Rattle.laws.proofs.Given.{first-given, refusals-clear, no-eleven, run-cases, run-refused, run-accepted}
@@ -20,7 +20,7 @@ use Rattle.laws.proofs.Tries.{budget-enough}
 
 -- a step answers 0, or a drain's step 11
 pub step-code : (S : State) (c : Call) → (step S c .answer .code ≡ 0) ⊎ (step S c .answer .code ≡ 11)
-unfolding step put get deliver drain touch cold
+unfolding step put get look deliver drain touch cold
 step-code S (Open n k) = inl refl
 step-code S (Put s x v) = inl refl
 step-code S (Get s x) = inl refl
@@ -28,6 +28,8 @@ step-code S (Deliver s o) = inl refl
 step-code S (Drain s b) = ⊎-elim inl (λ q. inr (q .0)) (drained-code S s b)
 step-code S (Cold s now T m) = inl refl
 step-code S (Touch s x now u r) = inl refl
+step-code S (Look s x) = inl refl
+step-code S (Adopt s x o c) = inl refl
 
 -- a refusal other than 11 is the first condition that holds
 pub turned-down : (S : State) (c : Call) (e : ℕ) → e ≢ 0 → e ≢ 11 → run S c .answer .code ≡ e
@@ -63,6 +65,8 @@ beside-zeros S (Deliver s o) e h = rw (ne-eqb e 10 h)
 beside-zeros S (Drain s b) e h = refl
 beside-zeros S (Cold s now T m) e h = refl
 beside-zeros S (Touch s x now u r) e h = refl
+beside-zeros S (Look s x) e h = refl
+beside-zeros S (Adopt s x o c) e h = refl
 
 pub refused-zeros : RefusedZeros
 refused-zeros S c e z y x q = ap (λ (r : Outcome). r .answer) (turned-down S c e z x q .1) ∙ beside-zeros S c e y
@@ -111,7 +115,7 @@ module _ (S : State) (s b : ℕ) (R : DrainReady S s) where
 -- ## The codes of a step
 
 pub step-enough : (S : State) (c : Call) → first (refusals S c) ≡ 0 → (step S c .answer .code ≡ 0) ↔ Enough S c
-unfolding step put get deliver drain touch cold refusals
+unfolding step put get look deliver drain touch cold refusals
 step-enough S (Open n k) z = ((λ q. tt), λ q. refl)
 step-enough S (Put s x v) z = ((λ q. tt), λ q. refl)
 step-enough S (Get s x) z = ((λ q. tt), λ q. refl)
@@ -119,9 +123,11 @@ step-enough S (Deliver s o) z = ((λ q. tt), λ q. refl)
 step-enough S (Drain s b) z = budget-enough-exactly S s b (drain-ready S s .0 z)
 step-enough S (Cold s now T m) z = ((λ q. tt), λ q. refl)
 step-enough S (Touch s x now u r) z = ((λ q. tt), λ q. refl)
+step-enough S (Look s x) z = ((λ q. tt), λ q. refl)
+step-enough S (Adopt s x o c) z = ((λ q. tt), λ q. refl)
 
 pub step-spent : (S : State) (c : Call) → first (refusals S c) ≡ 0 → (step S c .answer .code ≡ 11) ↔ Spent S c
-unfolding step put get deliver drain touch cold refusals
+unfolding step put get look deliver drain touch cold refusals
 step-spent S (Open n k) z = ((λ q. omega arith), absurd)
 step-spent S (Put s x v) z = ((λ q. omega arith), absurd)
 step-spent S (Get s x) z = ((λ q. omega arith), absurd)
@@ -129,6 +135,8 @@ step-spent S (Deliver s o) z = ((λ q. omega arith), absurd)
 step-spent S (Drain s b) z = budget-spent-exactly S s b (drain-ready S s .0 z)
 step-spent S (Cold s now T m) z = ((λ q. omega arith), absurd)
 step-spent S (Touch s x now u r) z = ((λ q. omega arith), absurd)
+step-spent S (Look s x) z = ((λ q. omega arith), absurd)
+step-spent S (Adopt s x o c) z = ((λ q. omega arith), absurd)
 
 -- a code that no refusal has
 steps-exactly : (S : State) (c : Call) (e : ℕ) (Q : Type 0) → (first (refusals S c) ≢ 0 → first (refusals S c) ≢ e)

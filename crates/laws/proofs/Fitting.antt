@@ -20,13 +20,13 @@ use Rattle.layout.proofs.Zeros.{all-zero}
 use Rattle.rules.specs.Sound.{place, Sound}
 use Rattle.rules.specs.Steps as r
 use Rattle.rules.specs.Touch.{touchOf, keepsHour, touched}
-use Rattle.rules.specs.Steps.{opened, learn, learnAll}
+use Rattle.rules.specs.Steps.{opened, learn}
 use Rattle.rules.specs.Drain.{drained, drain, turn}
 use Rattle.rules.specs.Refusals.{first}
-use Rattle.rules.specs.Calls.{Call, Open, Put, Get, Deliver, Drain, Cold, Touch, refusals, step, run}
-use Rattle.laws.proofs.Ready.{OpenReady, PutReady, GetReady, DeliverReady, open-ready, put-ready, get-ready, deliver-ready, TouchReady, cold-ready, touch-ready}
+use Rattle.rules.specs.Calls.{Call, Open, Put, Get, Deliver, Drain, Cold, Touch, Look, Adopt, refusals, step, run}
+use Rattle.laws.proofs.Ready.{OpenReady, PutReady, GetReady, DeliverReady, open-ready, put-ready, get-ready, adopt-ready, deliver-ready, TouchReady, touch-ready}
 use Rattle.laws.proofs.Keeps.{get-origin, deliver-behind, deliver-waiting}
-use Rattle.laws.proofs.Touching.{learn-apart, learnAll-apart, apart-sound, apart-ready}
+use Rattle.laws.proofs.Touching.{learn-apart, apart-ready}
 use Rattle.laws.proofs.Draining.{by-deliveries}
 use Rattle.laws.proofs.After.{after-run}
 
@@ -121,7 +121,7 @@ module _ (S : State) (F : Fits S) where
       let p : s < 8 = omega (arith, R .site, R .sound .sites) in
       let g = entry-fits S F s x p (omega (arith, R .key, R .sound .keys)) in
       let w = S .store s x in
-      let o : w .origin < 8 = omega (arith, get-origin S s x R (eqb-false _ _ e), R .sound .sites) in
+      let o : w .origin < 8 = omega (arith, get-origin S s x R, R .sound .sites) in
       let joined = join (S .depends s) (w .depends) in
       with-row S F s (note joined (w .origin) (w .clock)) p (note-fits joined (w .origin) (w .clock) (join-fits _ _ (depends-fits S F s p) (g .1 .1 .1 .1)) o (g .1 .1 .1 .0))
 
@@ -138,15 +138,6 @@ module _ (S : State) (F : Fits S) where
       with-count _ E s o _ p q c
 
 -- gets of the keys below m
-learnAll-fits : (S : State) (s m : ℕ) → Sound S → s < S .n → m ≤ S .k → Fits S → Fits (learnAll S s m)
-unfolding learnAll r.get
-learnAll-fits S s zero D h l F = F
-learnAll-fits S s (suc m) D h l F =
-    let p = learnAll-apart S s m in
-    let R : GetReady (learnAll S s m) s m =
-    record { sound = apart-sound p D; site = rw (p .1) h; key = rw (p .1) (omega arith) } in
-    get-fits (learnAll S s m) (learnAll-fits S s m D h (omega arith) F) s m R
-
 -- a touch record is 4 bytes
 touched-fits : (S : State) (s x now u w : ℕ) → Fits S → TouchReady S s x now u w → touched (S .store s x .value) now u w < 256 ^ 4
 touched-fits S s x now u w F R =
@@ -181,18 +172,26 @@ put-sized s x v h s′ x′ v′ e = let z : v ≡ v′ = cc in omega arith
 pub get-sized : (s x : ℕ) → Sized (Get s x)
 get-sized s x s′ x′ v′ e = let z : _≡_ {A = ℕ} 0 1 = cc in omega arith
 
+pub look-sized : (s x : ℕ) → Sized (Look s x)
+look-sized s x s′ x′ v′ e = let z : _≡_ {A = ℕ} 0 1 = cc in omega arith
+
+pub adopt-sized : (s x o c : ℕ) → Sized (Adopt s x o c)
+adopt-sized s x o c s′ x′ v′ e = let z : _≡_ {A = ℕ} 0 1 = cc in omega arith
+
 pub deliver-sized : (s o : ℕ) → Sized (Deliver s o)
 deliver-sized s o s′ x′ v′ e = let z : _≡_ {A = ℕ} 0 1 = cc in omega arith
 
 step-fits : (S : State) (c : Call) → Sized c → Fits S → first (refusals S c) ≡ 0 → Fits (step S c .after)
-unfolding step drain r.cold refusals
+unfolding step drain r.cold r.look refusals
 step-fits S (Open n k) h F z = open-fits n k (open-ready n k .0 z)
 step-fits S (Put s x v) h F z = put-fits S F s x v (put-ready S s x .0 z) (h s x v refl)
 step-fits S (Get s x) h F z = get-fits S F s x (get-ready S s x .0 z)
 step-fits S (Deliver s o) h F z = deliver-fits S F s o (deliver-ready S s o .0 z)
 step-fits S (Drain s b) h F z = drained-fits S s b F
-step-fits S (Cold s now T m) h F z = let R = cold-ready S s now T m z in learnAll-fits S s (S .k) (R .sound) (R .site) (omega arith) F
+step-fits S (Cold s now T m) h F z = F
 step-fits S (Touch s x now u w) h F z = touch-fits S s x now u w F (touch-ready S s x now u w z)
+step-fits S (Look s x) h F z = F
+step-fits S (Adopt s x o c) h F z = get-fits S F s x (adopt-ready S s x o c .0 z .get)
 
 pub run-fits : (S : State) (c : Call) → Sized c → Fits S → Fits (run S c .after)
 run-fits S c h F = after-run S c Fits (step-fits S c h F) F

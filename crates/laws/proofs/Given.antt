@@ -11,8 +11,8 @@ use Rattle.clock.proofs.Maps.{both, choice, eq?}
 use Rattle.clock.proofs.Says.{Says, Denies}
 use Rattle.layout.specs.State.{State, stateOf}
 use Rattle.rules.specs.Steps.{Numbers, Outcome}
-use Rattle.rules.specs.Refusals.{Refusals, first, open-refusals, put-refusals, get-refusals, deliver-refusals, site-refusals, touch-refusals, unless}
-use Rattle.rules.specs.Calls.{Call, Open, Put, Get, Deliver, Drain, Cold, Touch, words, inside, refusals, beside, step, run, asks}
+use Rattle.rules.specs.Refusals.{Refusals, first, open-refusals, put-refusals, get-refusals, adopt-refusals, deliver-refusals, site-refusals, touch-refusals, unless}
+use Rattle.rules.specs.Calls.{Call, Open, Put, Get, Deliver, Drain, Cold, Touch, Look, Adopt, words, inside, refusals, beside, step, run, asks}
 use Rattle.laws.specs.Theorems.{Given, Clear, CodesListed, FollowsOrder}
 
 -- ## The first condition that holds
@@ -80,9 +80,11 @@ words-proper (Deliver s o) = (tt, tt)
 words-proper (Drain s b) = (tt, tt)
 words-proper (Cold s now T m) = omega arith
 words-proper (Touch s x now u r) = omega arith
+words-proper (Look s x) = (tt, tt)
+words-proper (Adopt s x o c) = (tt, tt)
 
 inside-proper : (S : State) (c : Call) → Proper (inside S c)
-unfolding open-refusals put-refusals get-refusals deliver-refusals site-refusals touch-refusals
+unfolding open-refusals put-refusals get-refusals adopt-refusals deliver-refusals site-refusals touch-refusals
 inside-proper S (Open n k) = omega arith
 inside-proper S (Put s x v) = omega arith
 inside-proper S (Get s x) = omega arith
@@ -90,6 +92,8 @@ inside-proper S (Deliver s o) = omega arith
 inside-proper S (Drain s b) = omega arith
 inside-proper S (Cold s now T m) = omega arith
 inside-proper S (Touch s x now u r) = omega arith
+inside-proper S (Look s x) = omega arith
+inside-proper S (Adopt s x o c) = omega arith
 
 pub refusals-proper : (S : State) (c : Call) → Proper (refusals S c)
 unfolding refusals
@@ -97,7 +101,7 @@ refusals-proper S c = append-proper (words c) (inside S c) (words-proper c) (ins
 
 -- 1 is asked of the buffer alone
 pub no-one : (S : State) (c : Call) → first (refusals S c) ≢ 1
-unfolding refusals open-refusals put-refusals get-refusals deliver-refusals site-refusals touch-refusals
+unfolding refusals open-refusals put-refusals get-refusals adopt-refusals deliver-refusals site-refusals touch-refusals
 no-one S c = first-avoids 1 (refusals S c) (omega arith) (avoids S c)
   where
     avoids : (S : State) (c : Call) → Avoids 1 (refusals S c)
@@ -108,6 +112,8 @@ no-one S c = first-avoids 1 (refusals S c) (omega arith) (avoids S c)
     avoids S (Drain s b) = omega arith
     avoids S (Cold s now T m) = omega arith
     avoids S (Touch s x now u r) = omega arith
+    avoids S (Look s x) = omega arith
+    avoids S (Adopt s x o c) = omega arith
 
 pub asks-proper : (t : List ℕ) (c : Call) → Proper (asks t c)
 unfolding asks
@@ -122,7 +128,7 @@ pub no-eleven : (S : State) (c : Call) → first (refusals S c) ≢ 11
 no-eleven S c = first-avoids 11 (refusals S c) (omega arith) (refusals-proper S c .1)
 
 pub codes-listed : CodesListed
-unfolding refusals open-refusals put-refusals get-refusals deliver-refusals site-refusals touch-refusals
+unfolding refusals open-refusals put-refusals get-refusals adopt-refusals deliver-refusals site-refusals touch-refusals
 codes-listed S (Open n k) = refl
 codes-listed S (Put s x v) = refl
 codes-listed S (Get s x) = refl
@@ -130,9 +136,11 @@ codes-listed S (Deliver s o) = refl
 codes-listed S (Drain s b) = refl
 codes-listed S (Cold s now T m) = refl
 codes-listed S (Touch s x now u r) = refl
+codes-listed S (Look s x) = refl
+codes-listed S (Adopt s x o c) = refl
 
 pub follows-order : FollowsOrder
-unfolding asks refusals open-refusals put-refusals get-refusals deliver-refusals site-refusals touch-refusals
+unfolding asks refusals open-refusals put-refusals get-refusals adopt-refusals deliver-refusals site-refusals touch-refusals
 follows-order t (Open n k) = refl
 follows-order t (Put s x v) = refl
 follows-order t (Get s x) = refl
@@ -140,6 +148,8 @@ follows-order t (Deliver s o) = refl
 follows-order t (Drain s b) = refl
 follows-order t (Cold s now T m) = refl
 follows-order t (Touch s x now u r) = refl
+follows-order t (Look s x) = refl
+follows-order t (Adopt s x o c) = refl
 
 -- ## What a call does
 
@@ -152,6 +162,8 @@ beside-code S (Deliver s o) e = choice (eqb e 10) (λ (a : Numbers). a .code ≡
 beside-code S (Drain s b) e = refl
 beside-code S (Cold s now T m) e = refl
 beside-code S (Touch s x now u r) e = refl
+beside-code S (Look s x) e = refl
+beside-code S (Adopt s x o c) e = refl
 
 -- the step where no condition holds; else a refusal
 pub run-cases : (S : State) (c : Call)

@@ -134,8 +134,13 @@ pub get-sound : (S : State) (s x : ℕ) → Sound S → Sound (get S s x .after)
 unfolding get learn
 get-sound S s x D = choice (eqb (S .store s x .clock) 0) Sound (λ e. D) (λ e. depends-sound S _ D)
 
-pub get-origin : (S : State) (s x : ℕ) → GetReady S s x → S .store s x .clock ≢ 0 → S .store s x .origin < S .n
-get-origin S s x R h = ⊎-elim (λ b. absurd (h (b .clock))) (λ w. w .origin) (R .sound .entries s x (R .site) (R .key))
+module _ (S : State) (s x : ℕ) (R : GetReady S s x) where
+  -- that of a never-written key is 0
+  pub get-origin : S .store s x .origin < S .n
+  get-origin = ⊎-elim (λ b. omega (arith, b .origin, R .sound .sites)) (λ w. w .origin) (R .sound .entries s x (R .site) (R .key))
+
+  pub get-never : S .store s x .clock ≡ 0 → Blank (S .store s x)
+  get-never z = ⊎-elim (λ b. b) (λ w. absurd (omega (arith, w .some))) (R .sound .entries s x (R .site) (R .key))
 
 -- ## Put
 

@@ -12,5 +12,6 @@ pub mod After
 pub mod Codes
 pub mod Touches
 pub mod Serving
+pub mod Looks
 pub mod Fitting
 pub mod Outcomes

@@ -14,7 +14,7 @@ use Rattle.layout.specs.State.{State, Entry, lastClock}
 use Rattle.rules.specs.Sound.{sound, Sound}
 use Rattle.rules.specs.Touch.{keepsHour, recorded}
 use Rattle.rules.specs.Steps.{waiting}
-use Rattle.rules.specs.Refusals.{Refusals, first, full, missing, open-refusals, put-refusals, get-refusals, deliver-refusals, site-refusals, touch-refusals}
+use Rattle.rules.specs.Refusals.{Refusals, first, full, missing, open-refusals, put-refusals, get-refusals, adopt-refusals, deliver-refusals, site-refusals, touch-refusals}
 use Rattle.rules.specs.Calls.{Cold, Touch, refusals}
 use Rattle.laws.proofs.Given.{Gives, end, here, past}
 use Rattle.laws.proofs.Tested.{range-says, sound-tested}
@@ -34,6 +34,12 @@ pub record GetReady (S : State) (s x : ℕ) : Type 0 where
   pub sound : Sound S
   pub site : s < S .n
   pub key : x < S .k
+
+pub record AdoptReady (S : State) (s x o c : ℕ) : Type 0 where
+  pub get : GetReady S s x
+  pub below : o < S .n
+  pub origin : S .store s x .origin ≡ o
+  pub clock : S .store s x .clock ≡ c
 
 pub record DeliverReady (S : State) (s o : ℕ) : Type 0 where
   pub sound : Sound S
@@ -95,6 +101,18 @@ module _ (S : State) where
       Iff·trans
       (past-sound (omega arith) (past 4 (omega arith) (denies-le (S .n) s) (past 6 (omega arith) (denies-le (S .k) x) end)) .exactly)
       ((λ r. record { sound = r .0; site = r .1 .0; key = r .1 .1 .0 }), λ r. (r .sound, (r .site, (r .key, tt))))
+
+  pub adopt-ready : (s x o c : ℕ) → (first (adopt-refusals S s x o c) ≡ 0) ↔ AdoptReady S s x o c
+  unfolding adopt-refusals
+  adopt-ready s x o c =
+      Iff·trans
+      (past-sound (omega arith)
+      (past 4 (omega arith) (denies-or (denies-le (S .n) s) (denies-le (S .n) o))
+      (past 6 (omega arith) (denies-le (S .k) x)
+      (past 15 (omega arith) (denies-not (says-and (says-eq (S .store s x .origin) o) (says-eq (S .store s x .clock) c))) end))) .exactly) (
+        (λ (D, ((p, q), (k, ((e, f), _)))). record { get = record { sound = D; site = p; key = k }; below = q; origin = e; clock = f }),
+        λ r. (r .get .sound, ((r .get .site, r .below), (r .get .key, ((r .origin, r .clock), tt)))),
+      )
 
   pub deliver-ready : (s o : ℕ) → (first (deliver-refusals S s o) ≡ 0) ↔ DeliverReady S s o
   unfolding deliver-refusals

@@ -1,8 +1,8 @@
--- An accepted cold list is its gets, an accepted touch its get and then its put; a scan's touch leaves every key as cold as it was. Assumes nothing.
+-- An accepted touch is its get and then its put; a scan's touch leaves every key as cold as it was. Assumes nothing.
 use mathlib.Core.Path.{_≡_, refl, sym, ap, _∙_}
 use mathlib.Core.Bool.{Bool, true, false, not, _&&_}
 use mathlib.Core.Logic.{⊎-elim}
-use Prim.Native.Nat.{ℕ, zero, suc, _≤_, _<_}
+use Prim.Native.Nat.{ℕ, suc}
 use native.Mathlib.Omega.{arith}
 use lib.Dec.{eqb}
 use borrow.Author.Tests.{ne-eqb}
@@ -10,16 +10,15 @@ use Rattle.clock.specs.Map.{if_then_else_}
 use Rattle.clock.proofs.Maps.{both, at-is₂}
 use Rattle.clock.specs.Vector.{zeros}
 use Rattle.layout.specs.State.{State, Entry}
-use Rattle.rules.specs.Sound.{Sound}
 use Rattle.rules.specs.Touch.{hourOf, touchOf, wellFormed, keepsHour, touched, recorded, never, malformed, aged, age, kind}
-use Rattle.rules.specs.Steps.{Outcome, put, learn, learnAll, get, touch, cold}
+use Rattle.rules.specs.Steps.{Outcome, put, learn, get, touch, cold}
 use Rattle.rules.specs.Calls.{Put, Get, Cold, Touch, refusals, step, run}
-use Rattle.laws.specs.Touches.{ColdAnswers, getsBelow, ColdIsGets, TouchIsBoth, ScanKeepsColdness}
-use Rattle.laws.proofs.Ready.{GetReady, put-ready, get-ready, TouchReady, touch-ready, cold-ready}
+use Rattle.laws.specs.Touches.{ColdAnswers, TouchIsBoth, ScanKeepsColdness}
+use Rattle.laws.proofs.Ready.{put-ready, get-ready, TouchReady, touch-ready}
 use Rattle.laws.proofs.Given.{run-accepted}
 use Rattle.laws.proofs.Codes.{accepted-first}
 use Rattle.laws.proofs.Records.{touch-back, touch-formed}
-use Rattle.laws.proofs.Touching.{learn-apart, learnAll-apart, apart-sound, apart-ready}
+use Rattle.laws.proofs.Touching.{learn-apart, apart-ready}
 use Rattle.laws.proofs.After.{after-run}
 
 pub touch-is-both : TouchIsBoth
@@ -36,27 +35,6 @@ touch-is-both S s x now u r z =
 pub cold-answers : ColdAnswers
 unfolding step cold
 cold-answers S s now T m z = ap (λ (o : Outcome). o .answer) (run-accepted S (Cold s now T m) z .1)
-
--- an accepted get is what it learns
-get-learns : (S : State) (s x : ℕ) → GetReady S s x → run S (Get s x) .after ≡ learn S s x
-unfolding refusals step get
-get-learns S s x R = ap (λ (o : Outcome). o .after) (run-accepted S (Get s x) (accepted-first S (Get s x) refl .1 (get-ready S s x .1 R)) .1)
-
-gets-learn : (S : State) (s m : ℕ) → Sound S → s < S .n → m ≤ S .k → getsBelow S s m ≡ learnAll S s m
-unfolding learnAll
-gets-learn S s zero D h l = refl
-gets-learn S s (suc m) D h l =
-    let p = learnAll-apart S s m in
-    let R : GetReady (learnAll S s m) s m =
-    record { sound = apart-sound p D; site = rw (p .1) h; key = rw (p .1) (omega arith) } in
-    ap (λ (T : State). run T (Get s m) .after) (gets-learn S s m D h (omega arith)) ∙ get-learns (learnAll S s m) s m R
-
-pub cold-is-gets : ColdIsGets
-unfolding refusals step cold
-cold-is-gets S s now T m z =
-    let a = run-accepted S (Cold s now T m) z in
-    let R = cold-ready S s now T m (a .0) in
-    ap (λ (o : Outcome). o .after) (a .1) ∙ sym (gets-learn S s (S .k) (R .sound) (R .site) (omega arith))
 
 -- a written entry with a well formed record, by its hour
 kind-recorded : (hour T : ℕ) (e : Entry) → recorded e ≡ true → kind hour T e ≡ aged T (age hour (hourOf (e .value)))

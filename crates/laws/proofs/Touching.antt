@@ -1,13 +1,13 @@
--- A get changes no part of the table but its site's dependency row; so touch and the cold list keep a table sound. Assumes nothing.
-use mathlib.Core.Path.{_≡_, refl, sym, ap, subst, _∙_}
-use Prim.Native.Nat.{ℕ, zero, suc}
+-- A get changes no part of the table but its site's dependency row; so touch keeps a table sound. Assumes nothing.
+use mathlib.Core.Path.{_≡_, refl, sym, subst}
+use Prim.Native.Nat.{ℕ}
 use lib.Dec.{eqb}
 use Rattle.clock.specs.Vector.{Vector}
 use Rattle.clock.proofs.Maps.{choice}
 use Rattle.layout.specs.State.{State, withDepends}
 use Rattle.rules.specs.Sound.{Sound}
 use Rattle.rules.specs.Touch.{touched}
-use Rattle.rules.specs.Steps.{learn, learnAll, touch, cold}
+use Rattle.rules.specs.Steps.{learn, touch}
 use Rattle.laws.proofs.Ready.{PutReady}
 use Rattle.laws.proofs.Keeps.{depends-sound, put-sound}
 
@@ -18,14 +18,6 @@ Apart S T = (d : ℕ → Vector) × (T ≡ withDepends S d)
 pub learn-apart : (S : State) (s x : ℕ) → Apart S (learn S s x)
 unfolding learn
 learn-apart S s x = choice (eqb (S .store s x .clock) 0) (Apart S) (λ e. (S .depends, refl)) (λ e. (_, refl))
-
-pub learnAll-apart : (S : State) (s m : ℕ) → Apart S (learnAll S s m)
-unfolding learnAll
-learnAll-apart S s zero = (S .depends, refl)
-learnAll-apart S s (suc m) =
-    let p = learnAll-apart S s m in
-    let q = learn-apart (learnAll S s m) s m in
-    (q .0, q .1 ∙ ap (λ (T : State). withDepends T (q .0)) (p .1))
 
 pub apart-sound : {S T : State} → Apart S T → Sound S → Sound T
 apart-sound {S} p D = subst Sound (sym (p .1)) (depends-sound S (p .0) D)
@@ -38,7 +30,3 @@ apart-ready {S} {s = s} {x = x} p R =
 pub touch-sound : (S : State) (s x now u r : ℕ) → PutReady S s x → Sound (touch S s x now u r .after)
 unfolding touch
 touch-sound S s x now u r R = put-sound (learn S s x) s x (touched (S .store s x .value) now u r) (apart-ready (learn-apart S s x) R)
-
-pub cold-sound : (S : State) (s now T : ℕ) → Sound S → Sound (cold S s now T .after)
-unfolding cold
-cold-sound S s now T D = apart-sound (learnAll-apart S s (S .k)) D

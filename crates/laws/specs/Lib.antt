@@ -1,2 +1,3 @@
 pub mod Theorems
 pub mod Touches
+pub mod Looks

@@ -11,7 +11,7 @@ use Rattle.rules.specs.Sound.{sound, Sound}
 use Rattle.rules.specs.Steps.{Numbers, refused, waiting}
 use Rattle.rules.specs.Refusals.{order, Refusals, listed, follows, missing}
 use Rattle.rules.specs.Drain.{drained, drain}
-use Rattle.rules.specs.Calls.{Call, Open, Put, Get, Deliver, Drain, Cold, Touch, refusals, run, asks}
+use Rattle.rules.specs.Calls.{Call, Open, Put, Get, Deliver, Drain, Cold, Touch, Look, Adopt, refusals, run, asks}
 
 -- ## Sound tables
 
@@ -52,6 +52,8 @@ codes (Deliver s o) = 2 ∷ 4 ∷ 5 ∷ 9 ∷ 10 ∷ []
 codes (Drain s b) = 2 ∷ 4 ∷ []
 codes (Cold s now T m) = 14 ∷ 2 ∷ 4 ∷ []
 codes (Touch s x now u r) = 14 ∷ 2 ∷ 4 ∷ 6 ∷ 13 ∷ 7 ∷ 8 ∷ []
+codes (Look s x) = 2 ∷ 4 ∷ 6 ∷ []
+codes (Adopt s x o c) = 2 ∷ 4 ∷ 6 ∷ 15 ∷ []
 
 abbrev pub CodesListed : Type 0
 CodesListed = (S : State) (c : Call) → listed (refusals S c) ≡ codes c
@@ -77,6 +79,8 @@ Enough S (Deliver s o) = Unit {0}
 Enough S (Drain s b) = needed S s ≤ b
 Enough S (Cold s now T m) = Unit {0}
 Enough S (Touch s x now u r) = Unit {0}
+Enough S (Look s x) = Unit {0}
+Enough S (Adopt s x o c) = Unit {0}
 
 abbrev pub Spent : State → Call → Type 0
 Spent S (Open n k) = ⊥
@@ -86,6 +90,8 @@ Spent S (Deliver s o) = ⊥
 Spent S (Drain s b) = b < needed S s
 Spent S (Cold s now T m) = ⊥
 Spent S (Touch s x now u r) = ⊥
+Spent S (Look s x) = ⊥
+Spent S (Adopt s x o c) = ⊥
 
 -- 0 is answered exactly when no condition holds and the budget is enough
 abbrev pub AcceptedExactly : Type 0

@@ -3,7 +3,7 @@ use mathlib.Core.Path.{_≡_}
 use mathlib.Core.Bool.{true, false}
 use mathlib.Core.List.{_++_}
 use mathlib.Core.Logic.{_⊎_, _≢_, _↔_}
-use Prim.Native.Nat.{ℕ, zero, suc, _+_, _-_, _%_, _^_, _≤_, _<_}
+use Prim.Native.Nat.{ℕ, _+_, _-_, _%_, _^_, _≤_, _<_}
 use lib.ListN.{length, getD, replicate}
 use Rattle.clock.specs.Lists.{_∈_}
 use Rattle.layout.specs.State.{State, Entry}
@@ -65,14 +65,6 @@ abbrev pub ColdAnswers : Type 0
 ColdAnswers =
     (S : State) (s now T m : ℕ) → let r = run S (Cold s now T m) in r .answer .code ≡ 0
     → r .answer ≡ done (length (keysOf cold S s now T)) (length (keysOf ahead S s now T)) (length (keysOf malformed S s now T)) 0
-
--- "The list gets every key at one site": gets of the keys below m, one after another
-abbrev pub getsBelow : State → (s m : ℕ) → State
-getsBelow S s zero = S
-getsBelow S s (suc m) = run (getsBelow S s m) (Get s m) .after
-
-abbrev pub ColdIsGets : Type 0
-ColdIsGets = (S : State) (s now T m : ℕ) → let r = run S (Cold s now T m) in r .answer .code ≡ 0 → r .after ≡ getsBelow S s (S .k)
 
 -- ## Touch
 

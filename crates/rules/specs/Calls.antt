@@ -7,8 +7,8 @@ use lib.ListN.{length}
 use Rattle.clock.specs.Map.{if_then_else_}
 use Rattle.layout.specs.State.{State, table, stateOf, bytesOf}
 use Rattle.rules.specs.Touch.{coldList}
-use Rattle.rules.specs.Steps.{Numbers, Outcome, refused, opened, put, get, deliver, touch, cold}
-use Rattle.rules.specs.Refusals.{Refusals, first, open-refusals, put-refusals, get-refusals, deliver-refusals, site-refusals, touch-refusals, cold-words, touch-words, undelivered, unless}
+use Rattle.rules.specs.Steps.{Numbers, Outcome, refused, opened, put, get, look, deliver, touch, cold}
+use Rattle.rules.specs.Refusals.{Refusals, first, open-refusals, put-refusals, get-refusals, adopt-refusals, deliver-refusals, site-refusals, touch-refusals, cold-words, touch-words, undelivered, unless}
 use Rattle.rules.specs.Drain.{drain}
 
 pub data Call : Type 0 where
@@ -20,6 +20,9 @@ pub data Call : Type 0 where
   -- room: the length of the lent list
   Cold : (site now threshold room : ℕ) → Call
   Touch : (site key now toucher tier : ℕ) → Call
+  Look : (site key : ℕ) → Call
+  -- origin and clock: of the entry, as the caller knows it
+  Adopt : (site key origin clock : ℕ) → Call
 
 -- what is asked "first of all", of the call's own numbers
 abbrev pub words : Call → Refusals
@@ -30,6 +33,8 @@ words (Deliver s o) = []
 words (Drain s b) = []
 words (Cold s now T m) = cold-words now T m
 words (Touch s x now u r) = touch-words now u r
+words (Look s x) = []
+words (Adopt s x o c) = []
 
 -- what is asked of the table
 abbrev pub inside : State → Call → Refusals
@@ -40,6 +45,8 @@ inside S (Deliver s o) = deliver-refusals S s o
 inside S (Drain s b) = site-refusals S s
 inside S (Cold s now T m) = site-refusals S s
 inside S (Touch s x now u r) = touch-refusals S s x u
+inside S (Look s x) = get-refusals S s x
+inside S (Adopt s x o c) = adopt-refusals S s x o c
 
 unfoldable pub refusals : State → Call → Refusals
 refusals S c = words c ++ inside S c
@@ -53,6 +60,8 @@ beside S (Deliver s o) = undelivered S s o
 beside S (Drain s b) = refused
 beside S (Cold s now T m) = refused
 beside S (Touch s x now u r) = refused
+beside S (Look s x) = refused
+beside S (Adopt s x o c) = refused
 
 -- the step where no condition holds
 unfoldable pub step : State → Call → Outcome
@@ -63,6 +72,8 @@ step S (Deliver s o) = deliver S s o
 step S (Drain s b) = drain S s b
 step S (Cold s now T m) = cold S s now T
 step S (Touch s x now u r) = touch S s x now u r
+step S (Look s x) = look S s x
+step S (Adopt s x o c) = get S s x
 
 unfoldable pub run : State → Call → Outcome
 run S c = unless (refusals S c) (beside S c) S (step S c)

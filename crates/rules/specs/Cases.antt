@@ -8,14 +8,14 @@ use lib.ListN.{replicate}
 use Rattle.layout.specs.State.{State, bytesOf}
 use Rattle.rules.specs.Sound.{sound, header, counted, blank, written, smallest, lowest, holds, retains}
 use Rattle.rules.specs.Touch.{kind, chosen, coldList}
-use Rattle.rules.specs.Steps.{Numbers, refused, done, opened, put, learn, get, deliver, touch, learnAll, cold}
-use Rattle.rules.specs.Refusals.{open-refusals, full, put-refusals, get-refusals, deliver-refusals, site-refusals, touch-refusals}
+use Rattle.rules.specs.Steps.{Numbers, refused, done, opened, put, learn, get, look, deliver, touch, cold}
+use Rattle.rules.specs.Refusals.{open-refusals, full, put-refusals, get-refusals, adopt-refusals, deliver-refusals, site-refusals, touch-refusals}
 use Rattle.rules.specs.Drain.{try, passes, drained, drain}
 use Rattle.rules.specs.Calls.{Call, Put, Get, Deliver, Drain, refusals, beside, step, run}
 
 -- opens every rule, for what is computed
 unfoldable pub rules : ℕ
-unfolding all any least mask sound header counted blank written smallest lowest holds retains opened put learn get deliver open-refusals full put-refusals get-refusals deliver-refusals site-refusals touch-refusals try passes drained drain kind chosen coldList touch learnAll cold refusals beside step run
+unfolding all any least mask sound header counted blank written smallest lowest holds retains opened put learn get look deliver open-refusals full put-refusals get-refusals adopt-refusals deliver-refusals site-refusals touch-refusals try passes drained drain kind chosen coldList touch cold refusals beside step run
 rules = 0
 
 -- calls on a freshly opened table, their answers, and what is seen of the table before and after the last call
@@ -24,7 +24,7 @@ pub record Case : Type 0 where
   pub table : State
   pub calls : List Call
   pub answers : List Numbers
-  pub look : State → State → List ℕ
+  pub view : State → State → List ℕ
   pub seen : List ℕ
 
 abbrev pub answered : State → List Call → List Numbers
@@ -37,11 +37,11 @@ sight f S (c ∷ []) = f S (run S c .after)
 sight f S (c ∷ d ∷ cs) = sight f (run S c .after) (d ∷ cs)
 
 abbrev pub case : ℕ → State → List Call → List Numbers → Case
-case i S cs rs = record { number = i; table = S; calls = cs; answers = rs; look = λ S T. []; seen = [] }
+case i S cs rs = record { number = i; table = S; calls = cs; answers = rs; view = λ S T. []; seen = [] }
 
 -- a case with a sentence on the table
 abbrev pub case-of : ℕ → State → List Call → List Numbers → (State → State → List ℕ) → List ℕ → Case
-case-of i S cs rs f l = record { number = i; table = S; calls = cs; answers = rs; look = f; seen = l }
+case-of i S cs rs f l = record { number = i; table = S; calls = cs; answers = rs; view = f; seen = l }
 
 -- 1 where all bytes are the same
 abbrev same : List ℕ → List ℕ → ℕ
@@ -50,7 +50,7 @@ same [] (y ∷ ys) = 0
 same (x ∷ xs) [] = 0
 same (x ∷ xs) (y ∷ ys) = if eqb x y then same xs ys else 0
 
-abbrev unchanged : State → State → List ℕ
+abbrev pub unchanged : State → State → List ℕ
 unchanged S T = same (bytesOf S) (bytesOf T) ∷ []
 
 abbrev fives : List Numbers
@@ -88,7 +88,7 @@ cases =
     ∷ []
 
 abbrev pub computed : Case → List Numbers × List ℕ
-computed c = (answered (c .table) (c .calls), sight (c .look) (c .table) (c .calls))
+computed c = (answered (c .table) (c .calls), sight (c .view) (c .table) (c .calls))
 
 abbrev pub expected : Case → List Numbers × List ℕ
 expected c = (c .answers, c .seen)

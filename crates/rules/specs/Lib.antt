@@ -8,3 +8,4 @@ pub mod Cases
 pub mod Bounds
 pub mod SoundCases
 pub mod TouchCases
+pub mod LookCases

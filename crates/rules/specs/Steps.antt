@@ -1,5 +1,5 @@
--- What an accepted open, put, get, delivery, touch and cold list do to the table, and what they answer. Assumes nothing.
-use Prim.Native.Nat.{ℕ, zero, suc}
+-- What an accepted open, put, get, look, delivery, touch and cold list do to the table, and what they answer. Assumes nothing.
+use Prim.Native.Nat.{ℕ, suc}
 use lib.Dec.{eqb}
 use lib.ListN.{length}
 use Rattle.clock.specs.Map.{if_then_else_, _⟨_≔_⟩, _⟨_⟩⟨_≔_⟩}
@@ -52,10 +52,17 @@ learn S s x =
     if eqb (e .clock) 0 then S
     else withDepends S (S .depends ⟨ s ≔ note (join (S .depends s) (e .depends)) (e .origin) (e .clock) ⟩)
 
+-- what a get, a look and an adopt answer: "all three answer alike"
+abbrev pub seen : State → (s x : ℕ) → Numbers
+seen S s x = let e = S .store s x in done x (e .origin) (e .clock) (e .value)
+
+-- also an adopt, "which takes on the dependence" of the entry that the caller names
 unfoldable pub get : State → (s x : ℕ) → Outcome
-get S s x =
-    let e = S .store s x in
-    record { answer = done x (e .origin) (e .clock) (e .value); after = learn S s x }
+get S s x = record { answer = seen S s x; after = learn S s x }
+
+-- "look, which answers as get and changes nothing"
+unfoldable pub look : State → (s x : ℕ) → Outcome
+look S s x = record { answer = seen S s x; after = S }
 
 -- the next update of o for s
 abbrev pub waiting : State → (s o : ℕ) → Update
@@ -72,13 +79,8 @@ deliver S s o =
 unfoldable pub touch : State → (s x now toucher tier : ℕ) → Outcome
 touch S s x now u r = put (learn S s x) s x (touched (S .store s x .value) now u r)
 
--- gets of the keys below m, ascending
-unfoldable pub learnAll : State → (s m : ℕ) → State
-learnAll S s zero = S
-learnAll S s (suc m) = learn (learnAll S s m) s m
-
--- "The answer's key, site and clock count keys listed, clocks ahead and malformed values"; "The list gets every key at one site"
+-- "The answer's key, site and clock count keys listed, clocks ahead and malformed values"; "The cold list uses look"
 unfoldable pub cold : State → (s now threshold : ℕ) → Outcome
 cold S s now T =
     let count : kinds.Kind → ℕ = λ j. length (keysOf j S s now T) in
-    record { answer = done (count kinds.cold) (count kinds.ahead) (count kinds.malformed) 0; after = learnAll S s (S .k) }
+    record { answer = done (count kinds.cold) (count kinds.ahead) (count kinds.malformed) 0; after = S }

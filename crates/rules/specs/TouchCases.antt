@@ -75,12 +75,12 @@ touches =
     -- 14 before all, at its bounds
     ∷ case 14 (opened 2 4) (Cold 9 0 0 64 ∷ Cold 9 0 32768 64 ∷ Cold 9 0 1 63 ∷ Cold 9 0 1 65 ∷ Cold 9 65536 1 64 ∷ Cold 1 65535 32767 64 ∷ Cold 1 0 1 64 ∷ Cold 2 0 1 64 ∷ [])
     (refused 14 ∷ refused 14 ∷ refused 14 ∷ refused 14 ∷ refused 14 ∷ done 0 0 0 0 ∷ done 0 0 0 0 ∷ refused 4 ∷ [])
-    -- the list gets every key
+    -- the list looks at every key, and its site depends on none
     ∷ case-of 0 (opened 2 4) (some-puts ++ (Deliver 1 0 ∷ Deliver 1 0 ∷ Cold 1 150 50 64 ∷ [])) (put-so ++ (done 0 0 1 (touchOf 100 0 1) ∷ done 1 0 2 (touchOf 200 0 1) ∷ done 1 1 0 0 ∷ []))
-    (λ S T. row S 1 ++ row T 1) (0 ∷ 0 ∷ 2 ∷ 0 ∷ [])
+    (λ S T. row S 1 ++ row T 1) (0 ∷ 0 ∷ 0 ∷ 0 ∷ [])
     -- at site 2: three keys listed, two clocks ahead, one malformed; the last key is another origin's
     ∷ case-of 0 (opened 3 6) (six-puts ++ (Deliver 2 1 ∷ replicate 5 (Deliver 2 0)) ++ (Cold 2 150 50 64 ∷ [])) (six-so ++ (done 5 1 1 (touchOf 50 0 1) ∷ five-so) ++ (done 3 2 1 0 ∷ []))
-    (λ S T. row S 2 ++ row T 2) (0 ∷ 0 ∷ 5 ∷ 1 ∷ [])
+    (λ S T. row S 2 ++ row T 2) (0 ∷ 0 ∷ 0 ∷ 0 ∷ [])
     ∷ []
 
 pub touched-so : Computed touches

@@ -18,13 +18,14 @@ use Rattle.layout.specs.State.{State, stateOf, table}
 use Rattle.rules.specs.Sound.{sound, Sound}
 use Rattle.laws.proofs.Tested.{sound-tested}
 use Rattle.rules.specs.Refusals.{Refusals, first}
-use Rattle.rules.specs.Calls.{Put, Get, refusals, asks}
-use Rattle.laws.proofs.Ready.{GetReady, get-ready, PutReady, put-ready}
+use Rattle.rules.specs.Calls.{Put, Get, Adopt, refusals, asks}
+use Rattle.laws.proofs.Ready.{GetReady, get-ready, AdoptReady, adopt-ready, PutReady, put-ready}
+use Rattle.laws.proofs.Keeps.{get-origin}
 use Rattle.laws.proofs.Serving.{asks-clear}
 use Rattle.table.specs.declared.Refusal.{Refusal}
-use Rattle.table.specs.declared.Refusal.the-variants.{Nothing, Size, Unsound, Counts, Site, Same, Key, Spent, Full, NoNext, NoRecord, OutOfRange}
+use Rattle.table.specs.declared.Refusal.the-variants.{Nothing, Size, Unsound, Counts, Site, Same, Key, Spent, Full, NoNext, NoRecord, OutOfRange, Changed}
 use Rattle.table.specs.Answers.{codeOf}
-use Rattle.table.specs.Asked.{tableIn, deliverIn, Attempts}
+use Rattle.table.specs.Asked.{tableIn, deliverIn, GetFits, Attempts}
 
 pub first-then : (ps qs : Refusals) → Avoids 0 ps → first ps ≡ 0 → first qs ≡ first (ps ++ qs)
 first-then [] qs h e = refl
@@ -44,13 +45,13 @@ first-stop (p ∷ ps) qs h = go (p .1) refl h (first-stop ps qs)
     go false f z r = rw f (r z)
 
 -- the other arms of a match on a refusal
-pub refusing : (r : Refusal) → OneOf (1 ∷ 2 ∷ 3 ∷ 4 ∷ 5 ∷ 6 ∷ 7 ∷ 8 ∷ 9 ∷ 10 ∷ 11 ∷ []) (tagOf the-type r) → codeOf r ≢ 0
+pub refusing : (r : Refusal) → OneOf (1 ∷ 2 ∷ 3 ∷ 4 ∷ 5 ∷ 6 ∷ 7 ∷ 8 ∷ 9 ∷ 10 ∷ 11 ∷ 12 ∷ []) (tagOf the-type r) → codeOf r ≢ 0
 refusing Nothing h = absurd (never h)
   where
-    never : OneOf (1 ∷ 2 ∷ 3 ∷ 4 ∷ 5 ∷ 6 ∷ 7 ∷ 8 ∷ 9 ∷ 10 ∷ 11 ∷ []) 0 → ⊥
+    never : OneOf (1 ∷ 2 ∷ 3 ∷ 4 ∷ 5 ∷ 6 ∷ 7 ∷ 8 ∷ 9 ∷ 10 ∷ 11 ∷ 12 ∷ []) 0 → ⊥
     never =
         ⊎-elim (λ e. omega arith) (⊎-elim (λ e. omega arith) (⊎-elim (λ e. omega arith) (⊎-elim (λ e. omega arith) (⊎-elim (λ e. omega arith)
-        (⊎-elim (λ e. omega arith) (⊎-elim (λ e. omega arith) (⊎-elim (λ e. omega arith) (⊎-elim (λ e. omega arith) (⊎-elim (λ e. omega arith) (λ e. omega arith))))))))))
+        (⊎-elim (λ e. omega arith) (⊎-elim (λ e. omega arith) (⊎-elim (λ e. omega arith) (⊎-elim (λ e. omega arith) (⊎-elim (λ e. omega arith) (⊎-elim (λ e. omega arith) (λ e. omega arith)))))))))))
 refusing Size h = omega arith
 refusing Unsound h = omega arith
 refusing Counts h = omega arith
@@ -62,6 +63,7 @@ refusing Full h = omega arith
 refusing NoNext h = omega arith
 refusing NoRecord h = omega arith
 refusing OutOfRange h = omega arith
+refusing Changed h = omega arith
 
 -- neither 1 nor 2: the buffer holds a sound table
 pub table-clear : (t : List ℕ) → first (tableIn t) ≡ 0 → (length t ≡ table .width) × Sound (stateOf t)
@@ -78,9 +80,22 @@ module _ (t : List ℕ) (s x : ℕ) where
   unfolding refusals
   get-clear h = let r = asks-clear t (Get s x) h in (r .0, get-ready (stateOf t) s x .0 (r .1))
 
+  pub adopt-clear : (o c : ℕ) → first (asks t (Adopt s x o c)) ≡ 0 → (length t ≡ table .width) × AdoptReady (stateOf t) s x o c
+  unfolding refusals
+  adopt-clear o c h = let r = asks-clear t (Adopt s x o c) h in (r .0, adopt-ready (stateOf t) s x o c .0 (r .1))
+
   pub put-clear : (v : ℕ) → first (asks t (Put s x v)) ≡ 0 → (length t ≡ table .width) × PutReady (stateOf t) s x
   unfolding refusals
   put-clear v h = let r = asks-clear t (Put s x v) h in (r .0, put-ready (stateOf t) s x .0 (r .1))
+
+-- what the step of a get or an adopt relies on
+pub get-fits : (t : List ℕ) (s x : ℕ) → length t ≡ table .width → GetReady (stateOf t) s x → GetFits t s x
+get-fits t s x l R =
+    let n = R .sound .sites in
+    record {
+      entry = record { size = l; site = omega (arith, R .site, n); key = omega (arith, R .key, R .sound .keys) };
+      origin = omega (arith, get-origin (stateOf t) s x R, n);
+    }
 
 pub deliver-clear : (t : List ℕ) (s o : ℕ) → first (deliverIn t s o) ≡ 0 → Attempts t s o
 deliver-clear t s o h =

@@ -9,10 +9,10 @@ use Rattle.layout.proofs.TableTrips.{bytes-back}
 use Rattle.layout.specs.Ranges.{Bytes}
 use Rattle.rules.specs.Steps.{Numbers, refused}
 use Rattle.rules.specs.Refusals.{first}
-use Rattle.rules.specs.Calls.{Call, Open, Put, Get, Deliver, Drain, Cold, Touch, beside, step, run, asks, serve}
+use Rattle.rules.specs.Calls.{Call, Open, Put, Get, Deliver, Drain, Cold, Touch, Look, Adopt, beside, step, run, asks, serve}
 use Rattle.laws.proofs.Serving.{asks-clear, serve-step, serve-refused, serve-runs}
 use Rattle.table.specs.declared.Refusal.{Refusal}
-use Rattle.table.specs.declared.Refusal.the-variants.{Nothing, Size, Unsound, Counts, Site, Same, Key, Spent, Full, NoNext, NoRecord, OutOfRange}
+use Rattle.table.specs.declared.Refusal.the-variants.{Nothing, Size, Unsound, Counts, Site, Same, Key, Spent, Full, NoNext, NoRecord, OutOfRange, Changed}
 use Rattle.table.specs.declared.Answer.the-variants.{Refused}
 use Rattle.table.specs.Answers.{codeOf, served}
 
@@ -34,9 +34,12 @@ besides S (Deliver s o) Full = refl
 besides S (Deliver s o) NoNext = refl
 besides S (Deliver s o) NoRecord = refl
 besides S (Deliver s o) OutOfRange = refl
+besides S (Deliver s o) Changed = refl
 besides S (Drain s b) r = refl
 besides S (Cold s now T m) r = refl
 besides S (Touch s x now u w) r = refl
+besides S (Look s x) r = refl
+besides S (Adopt s x o c) r = refl
 
 module _ (t : List ℕ) (c : Call) where
   pub serves-refused : (r : Refusal) → codeOf r ≡ first (asks t c) → codeOf r ≢ 0 → served (Refused r) t ≡ serve t c

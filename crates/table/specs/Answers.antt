@@ -5,7 +5,7 @@ use Prim.Native.Nat.{ℕ}
 use Rattle.rules.specs.Steps.{Numbers, refused, done}
 use Rattle.rules.specs.Calls.{Call, Served, serve}
 use Rattle.table.specs.declared.Refusal.{Refusal}
-use Rattle.table.specs.declared.Refusal.the-variants.{Nothing, Size, Unsound, Counts, Site, Same, Key, Spent, Full, NoNext, NoRecord, OutOfRange}
+use Rattle.table.specs.declared.Refusal.the-variants.{Nothing, Size, Unsound, Counts, Site, Same, Key, Spent, Full, NoNext, NoRecord, OutOfRange, Changed}
 use Rattle.table.specs.declared.Answer.{Answer}
 use Rattle.table.specs.declared.Answer.the-variants.{Done, Missing, Drained, Stopped, Refused}
 
@@ -22,6 +22,7 @@ codeOf Full = 8
 codeOf NoNext = 9
 codeOf NoRecord = 13
 codeOf OutOfRange = 14
+codeOf Changed = 15
 
 abbrev pub numbersOf : Answer → Numbers
 numbersOf (Done x s c v) = done x s c v

@@ -1,6 +1,6 @@
 -- Parts of the lists of refusals, over the numbers that the code has at hand. Assumes nothing.
 use mathlib.Core.Path.{_≡_}
-use mathlib.Core.Bool.{Bool, not, _||_}
+use mathlib.Core.Bool.{Bool, not, _&&_, _||_}
 use mathlib.Core.List.{List, [], _∷_}
 use mathlib.Core.Logic.{_≢_}
 use Prim.Native.Nat.{ℕ, _+_, _<_}
@@ -8,7 +8,7 @@ use lib.Dec.{eqb, leb}
 use lib.ListN.{length}
 use Rattle.clock.specs.Map.{any}
 use Rattle.clock.specs.Vector.{Vector}
-use Rattle.layout.specs.State.{stateOf, lastClock, table}
+use Rattle.layout.specs.State.{Entry, stateOf, lastClock, table}
 use Rattle.layout.specs.declared.Record.{Record}
 use Rattle.layout.specs.Records.{updateOf}
 use Rattle.rules.specs.Sound.{sound, Sound}
@@ -20,6 +20,12 @@ tableIn t = (1, not (eqb (length t) (table .width))) ∷ (2, not (sound (stateOf
 
 abbrev pub namesIn : (n k s x : ℕ) → Refusals
 namesIn n k s x = (4, leb n s) ∷ (6, leb k x) ∷ []
+
+abbrev pub entryIn : Entry → (o c : ℕ) → Refusals
+entryIn e o c = (15, not (eqb (e .origin) o && eqb (e .clock) c)) ∷ []
+
+abbrev pub namedIn : Entry → (n k s x o c : ℕ) → Refusals
+namedIn e n k s x o c = (4, leb n s || leb n o) ∷ (6, leb k x) ∷ entryIn e o c
 
 abbrev pub sitesIn : (n s o : ℕ) → Refusals
 sitesIn n s o = (4, leb n s || leb n o) ∷ (5, eqb s o) ∷ []
@@ -41,11 +47,14 @@ pub record PutFits (t : List ℕ) (s x : ℕ) : Type 0 where
   pub key : x < 64
   pub clock : stateOf t .applied s s ≢ lastClock
 
-pub record GetFits (t : List ℕ) (s x : ℕ) : Type 0 where
+pub record EntryFits (t : List ℕ) (s x : ℕ) : Type 0 where
   pub size : length t ≡ table .width
   pub site : s < 8
   pub key : x < 64
-  pub origin : stateOf t .store s x .clock ≢ 0 → stateOf t .store s x .origin < 8
+
+pub record GetFits (t : List ℕ) (s x : ℕ) : Type 0 where
+  pub entry : EntryFits t s x
+  pub origin : stateOf t .store s x .origin < 8
 
 -- a sound table, and two of its sites
 pub record Attempts (t : List ℕ) (s o : ℕ) : Type 0 where

@@ -2,7 +2,7 @@
 use mathlib.Core.Path.{_≡_, refl, sym, _∙_}
 use mathlib.Core.List.{List}
 use Prim.Native.Nat.{ℕ}
-use Rattle.rules.specs.Calls.{Call, Open, Put, Get, Deliver, Drain, Touch, Served, serve}
+use Rattle.rules.specs.Calls.{Call, Open, Put, Get, Deliver, Drain, Touch, Look, Adopt, Served, serve}
 use Rattle.table.specs.Answers.{Promise}
 
 abbrev pub NoSecond : Call → Type 0
@@ -31,3 +31,9 @@ drain-no-second s b = no-second (Drain s b)
 
 pub touch-no-second : (s x hour u r : ℕ) → NoSecond (Touch s x hour u r) × One (Touch s x hour u r)
 touch-no-second s x hour u r = no-second (Touch s x hour u r)
+
+pub look-no-second : (s x : ℕ) → NoSecond (Look s x) × One (Look s x)
+look-no-second s x = no-second (Look s x)
+
+pub adopt-no-second : (s x o c : ℕ) → NoSecond (Adopt s x o c) × One (Adopt s x o c)
+adopt-no-second s x o c = no-second (Adopt s x o c)

@@ -15,6 +15,8 @@ use clock::Compared;
 use layout::Record;
 use layout::Table;
 
+pub mod look;
+
 // Why a call is refused; Nothing where it is not.
 pub enum Refusal {
     Nothing,
@@ -29,6 +31,7 @@ pub enum Refusal {
     NoNext,
     NoRecord,
     OutOfRange,
+    Changed,
 }
 
 // What a call answers.
@@ -72,6 +75,7 @@ pub fn refusal_code(r: Refusal) -> u8
         Refusal::NoNext => 9,
         Refusal::NoRecord => 13,
         Refusal::OutOfRange => 14,
+        Refusal::Changed => 15,
     }
 }
 

@@ -8,11 +8,11 @@ use Rattle.layout.specs.State.{State, stateOf, table}
 use Rattle.rules.specs.Steps.{learn}
 use Rattle.rules.specs.Refusals.{first}
 use Rattle.rules.specs.Calls.{Touch, asks}
-use Rattle.laws.proofs.Ready.{GetReady, TouchReady, touch-ready}
-use Rattle.laws.proofs.Keeps.{get-origin}
+use Rattle.laws.proofs.Ready.{TouchReady, touch-ready}
 use Rattle.laws.proofs.Touching.{learn-apart}
 use Rattle.laws.proofs.Serving.{asks-clear}
 use Rattle.table.specs.Asked.{GetFits, PutFits}
+use Rattle.table.proofs.Codes as codes
 
 module _ (t : List ℕ) (s x hour u r : ℕ) (z : first (asks t (Touch s x hour u r)) ≡ 0) where
   pub size : length t ≡ table .width
@@ -25,10 +25,7 @@ module _ (t : List ℕ) (s x hour u r : ℕ) (z : first (asks t (Touch s x hour 
   small = let P = ready .put in (omega (arith, P .site, P .sound .sites), omega (arith, P .key, P .sound .keys))
 
   pub get-fits : GetFits t s x
-  get-fits =
-      let P = ready .put in
-      let G : GetReady (stateOf t) s x = record { sound = P .sound; site = P .site; key = P .key } in
-      record { size = size; site = small .0; key = small .1; origin = λ n. omega (arith, get-origin (stateOf t) s x G n, P .sound .sites) }
+  get-fits = let P = ready .put in codes.get-fits t s x size (record { sound = P .sound; site = P .site; key = P .key })
 
   -- the get leaves the counts
   pub put-fits : (t′ : List ℕ) → length t′ ≡ length t → stateOf t′ ≡ learn (stateOf t) s x → PutFits t′ s x

@@ -1,8 +1,9 @@
 //! A table, and its calls with their replies read as the five numbers. Each test uses its part.
 #![allow(dead_code)]
 
-use twin::{cold, deliver, drain, get, open, put, touch, LIST_BYTES, REPLY_BYTES, TABLE_BYTES};
+use twin::{adopt, cold, deliver, drain, get, look, open, put, touch, LIST_BYTES, REPLY_BYTES, TABLE_BYTES};
 
+#[derive(Clone)]
 pub struct Session {
     pub table: Vec<u8>,
     pub list: [u8; LIST_BYTES],
@@ -36,6 +37,14 @@ impl Session {
 
     pub fn get(&mut self, site: u64, key: u64) -> Numbers {
         self.call(|table, reply| get(site, key, table, reply))
+    }
+
+    pub fn look(&mut self, site: u64, key: u64) -> Numbers {
+        self.call(|table, reply| look(site, key, table, reply))
+    }
+
+    pub fn adopt(&mut self, site: u64, key: u64, origin: u64, clock: u64) -> Numbers {
+        self.call(|table, reply| adopt(site, key, origin, clock, table, reply))
     }
 
     pub fn deliver(&mut self, site: u64, origin: u64) -> Numbers {

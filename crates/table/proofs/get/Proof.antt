@@ -1,12 +1,10 @@
 use mathlib.Core.Path.{sym, ap, _∙_}
 use native.Mathlib.Omega.{arith}
 use Rattle.layout.specs.Ranges.{Bytes}
-use Rattle.layout.specs.State.{stateOf}
 use Rattle.rules.specs.Steps.{done, get}
 use Rattle.rules.specs.Calls.{Get, step}
-use Rattle.laws.proofs.Keeps.{get-origin}
 use Rattle.table.specs.Answers.{codeOf}
-use Rattle.table.proofs.Codes.{refusing, get-clear}
+use Rattle.table.proofs.Codes.{refusing, get-clear, get-fits}
 use Rattle.table.proofs.Serves.{serves-refused, serves-step}
 use borrow.Author.Needs.{needs}
 use Rattle.table.proofs.get.Statement.{statement}
@@ -17,13 +15,7 @@ get-step-requires c κs =
     let asked = c .before .before .before in
     let a = asked .before .before .before .args in
     let p = get-clear (a .t .now) (a .s) (a .x) (sym (asked .get-refusal .ensures) ∙ ap codeOf (c .before .enum-told .given .1)) in
-    let g = p .1 in
-    record {
-      size = p .0;
-      site = omega (arith, g .site, g .sound .sites);
-      key = omega (arith, g .key, g .sound .keys);
-      origin = λ z. omega (arith, get-origin (stateOf (a .t .now)) (a .s) (a .x) g z, g .sound .sites);
-    }
+    get-fits (a .t .now) (a .s) (a .x) (p .0) (p .1)
 
 returns : tie.Need-returns
 unfolding Bytes step get
@@ -50,7 +42,7 @@ get-spec =
     (λ c κs. search needs)  -- get-refusal-requires
     (λ c. search needs)  -- enum-told
     get-step-requires
-    (λ c. let f = get-step-requires (c .before .before .before) (c .before .before .get-step .lifetimes) in omega (arith, f .key))
+    (λ c. let f = get-step-requires (c .before .before .before) (c .before .before .get-step .lifetimes) in omega (arith, f .entry .key))
     (λ c. search needs)  -- same-length
     returns
     (λ c. search needs)  -- same-length-2

@@ -20,8 +20,7 @@ note-requires : tie.Need-note-requires
 note-requires c κs =
     let if1 = c .before .before .before .before .before .before in
     let e = if1 .before .entry-at .ensures in
-    let o = if1 .before .before .before .before .pre .origin (λ z. if1 .if1 .left (ap (λ (e : Entry). e .clock) e ∙ z)) in
-    omega (arith, c .wide-byte .ensures .0, o, ap (λ (e : Entry). e .origin) e)
+    omega (arith, c .wide-byte .ensures .0, if1 .before .before .before .before .pre .origin, ap (λ (e : Entry). e .origin) e)
 
 returns-2 : tie.Need-returns-2
 returns-2 c =

@@ -18,10 +18,12 @@ returns c =
 
 returns-2 : tie.Need-returns-2
 returns-2 c =
-    let w = c .before .before .before .before .before .before .before .before .before .cold in
-    let a = c .before .before .before .before .before .before .before .before .before .before .before .before .before .before .before .before .args in
-    lists-call (a .table .now) (a .list .now) (a .reply .now) (a .site) (a .hour) (a .threshold) (w .result) (c .before .before .before .numbers-of .result) (c .before .before .before .before .before .before .before .before .before .before .before .before .if1 .left) (w .ensures)
-    (c .before .before .before .numbers-of .ensures) (c .before .before .answer .ensures)
+    let r = c .before .before in
+    let w = r .before .before .before .before .before in
+    let tested = w .before .before .before in
+    let a = tested .before .before .before .before .args in
+    lists-call (a .table .now) (a .list .now) (a .reply .now) (a .site) (a .hour) (a .threshold) (w .cold .result) (r .before .numbers-of .result) (tested .if1 .left) (w .cold .ensures)
+    (r .before .numbers-of .ensures) (r .answer .ensures)
 
 pub fc-cold-spec : {M : Type 1} → statement M
 fc-cold-spec =
