@@ -10,8 +10,9 @@
 # make waits FILE=build/x.table: of each link of a table, whether it is ready or what it waits for
 # make soak SECONDS=n: random schedules and random calls, half of the time each
 # make bench: the library against the second program, in turns
+# make lists: what an update carries with long lists and with short ones, in a month of eight sites; drawn as build/lists.svg
 # make times: the proving seconds of each crate, from nothing
-.PHONY: help test run lib install story policy play draw table waits soak bench times
+.PHONY: help test run lib install story policy play draw table waits soak bench lists times
 
 PREFIX ?= /usr/local
 SECONDS ?= 600
@@ -81,6 +82,11 @@ soak:
 
 bench:
 	@bench/run
+
+lists: lib
+	@$(CC) $(STRICT) $(CFLAGS) -Ibuild -Itests/harness bench/lists/lists.c $(LIBRARY) -o build/lists
+	@build/lists build/lists.tsv
+	@python3 bench/lists/plot.py build/lists.tsv >build/lists.svg
 
 times:
 	@tools/times

@@ -38,9 +38,9 @@ static void name_adopted(struct scene *scene, const struct starts *starts, unsig
     for (unsigned at = 0; at < scene->count; at++) {
         struct call *call = &scene->calls[at];
         uint8_t *table = tables[(at + turn) % starts->count];
-        if (call->kind == ADOPT)
+        if (namesake(call->kind) == ADOPT)
             name_held(call, table);
-        if (make_plain_call(&twin, *call, table) != FC_OK && call->kind == ADOPT) {
+        if (make_plain_call(&twin, *call, table) != FC_OK && namesake(call->kind) == ADOPT) {
             fputs("bench: an adopt was refused\n", stderr);
             exit(2);
         }
@@ -50,7 +50,7 @@ static void name_adopted(struct scene *scene, const struct starts *starts, unsig
 static bool adopts(const struct scene *scene)
 {
     unsigned at = 0;
-    while (at < scene->count && scene->calls[at].kind != ADOPT)
+    while (at < scene->count && namesake(scene->calls[at].kind) != ADOPT)
         at++;
     return at < scene->count;
 }
@@ -92,7 +92,7 @@ static struct cost cost_of(struct scene *scene, const struct starts *starts, uns
 int main(int argc, char **argv)
 {
     static const unsigned site_counts[] = {1, 2, 4, 8}, key_counts[] = {1, 16, 64};
-    static struct starts starts;
+    static struct starts starts[2]; /* with long lists, and with short ones */
     if (argc != 3) {
         fputs("bench TURNS FIGURES.tsv\n", stderr);
         return 2;
@@ -108,10 +108,11 @@ int main(int argc, char **argv)
     for (unsigned row = 0; row < 12 * FILLINGS; row++) {
         enum filling filling = (enum filling)(row / 12);
         unsigned sites = site_counts[row / 3 % 4], keys = key_counts[row % 3];
-        starts.count = make_starts(starts.tables, filling, sites, keys);
+        for (int lists = 0; lists < 2; lists++)
+            starts[lists].count = make_starts(starts[lists].tables, lists, filling, sites, keys);
         for (unsigned which = 0; which < SCENES; which++) {
             struct scene scene = make_scene(which, filling, sites, keys);
-            struct cost cost = cost_of(&scene, &starts, turns);
+            struct cost cost = cost_of(&scene, &starts[scene_is_short(which)], turns);
             fprintf(figures, "%s\t%u\t%u\t%s\t%d\t%.1f\t%.1f\n", filling_names[filling], sites, keys,
                     scene_name(which), which >= FIRST_MIX, cost.ours, cost.twins);
         }

@@ -7,6 +7,7 @@ import csv
 import sys
 
 KEYS = ("table", "sites", "keys", "scene", "mix")
+SHORT = "short_"  # before the name of a scene with short lists
 
 
 def read(path):
@@ -31,14 +32,17 @@ def write(path, costs):
         out.writerows(key + cost for key, cost in costs.items())
 
 
-def show(costs):
+def show(title, costs, short):
     rows = {}
     for (table, sites, keys, scene, mix), (ours, twins) in costs.items():
-        rows.setdefault((table, sites, keys), []).append((scene, mix, ours / twins))
+        if scene.startswith(SHORT) == short:
+            rows.setdefault((table, sites, keys), []).append((scene.removeprefix(SHORT), mix, ours / twins))
+    if not rows:
+        return
     names = [(scene, mix) for scene, mix, _ in next(iter(rows.values()))]
     first_mix = [mix for _, mix in names].index("1")
     bar = lambda at: "  |" if at == first_mix else ""
-    print("time of forkcanyon over time of twin, less is better")
+    print(title)
     print(f"{'table':6}{'sites':>6}{'keys':>5}" + "".join(f"{bar(at)}{scene:>8}" for at, (scene, _) in enumerate(names)))
     for (table, sites, keys), cells in rows.items():
         ratios = "".join(f"{bar(at)}{ratio:8.2f}" for at, (_, _, ratio) in enumerate(cells))
@@ -55,7 +59,8 @@ def main():
         raise SystemExit(__doc__.strip())
     costs = least(sys.argv[2:])
     write(sys.argv[1], costs)
-    show(costs)
+    show("time of forkcanyon over time of twin, less is better", costs, False)
+    show("the same with short lists", costs, True)
     for name, mix in (("call", "0"), ("mix", "1")):
         ratio, where = worst(costs, mix)
         print(f"worst {name:4} {ratio:.2f}: {where}")

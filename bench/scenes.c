@@ -6,29 +6,41 @@
 #include <stdio.h>
 #include <stdlib.h>
 
-enum { ALONE = FC_PLACES / 2, ROUNDS = 6 };
+enum { ALONE = FC_PLACES / 2, ROUNDS = 6, KINDS_OF_MIX = MIXES / 2 };
 
 const char *const filling_names[FILLINGS] = {"fresh", "half", "full"};
 
-/* How often each call comes up in a mix. */
+/* How often each call comes up in a mix; each mix is made with long lists, and again with short ones. */
 static const struct {
-    const char *name;
+    const char *name, *short_name;
     unsigned weights[KINDS];
-} mixes[MIXES] = {
-    {"even", {[PUT] = 3, [GET] = 3, [DELIVER] = 3, [DRAIN] = 1}},
-    {"reads", {[PUT] = 1, [GET] = 16, [DELIVER] = 2, [DRAIN] = 1}},
-    {"writes", {[PUT] = 10, [GET] = 2, [DELIVER] = 4, [DRAIN] = 4}},
-    {"links", {[PUT] = 3, [GET] = 2, [DELIVER] = 12, [DRAIN] = 3}},
-    {"policy", {[TOUCH] = 10, [COLD] = 2, [LOOK] = 4, [ADOPT] = 4, [DELIVER] = 4, [DRAIN] = 4}},
+} mixes[KINDS_OF_MIX] = {
+    {"even", "short_even", {[PUT] = 3, [GET] = 3, [DELIVER] = 3, [DRAIN] = 1}},
+    {"reads", "short_reads", {[PUT] = 1, [GET] = 16, [DELIVER] = 2, [DRAIN] = 1}},
+    {"writes", "short_writes", {[PUT] = 10, [GET] = 2, [DELIVER] = 4, [DRAIN] = 4}},
+    {"links", "short_links", {[PUT] = 3, [GET] = 2, [DELIVER] = 12, [DRAIN] = 3}},
+    {"policy", "short_policy", {[TOUCH] = 10, [COLD] = 2, [LOOK] = 4, [ADOPT] = 4, [DELIVER] = 4, [DRAIN] = 4}},
 };
+
+bool scene_is_short(unsigned which)
+{
+    return which < FIRST_MIX ? is_short((enum kind)which) : which - FIRST_MIX >= KINDS_OF_MIX;
+}
 
 const char *scene_name(unsigned which)
 {
-    return which < FIRST_MIX ? kind_names[which] : mixes[which - FIRST_MIX].name;
+    if (which < FIRST_MIX)
+        return kind_names[which];
+    unsigned mix = (which - FIRST_MIX) % KINDS_OF_MIX;
+    return scene_is_short(which) ? mixes[mix].short_name : mixes[mix].name;
 }
+
+static bool filled_short; /* with which lists the tables are filled */
 
 static void must(uint8_t *table, struct call call)
 {
+    if (filled_short)
+        call.kind = with_short_lists(call.kind);
     uint32_t code = make_plain_call(&twin, call, table);
     if (code != FC_OK) {
         printf("bench: %s was refused with %u\n", kind_names[call.kind], (unsigned)code);
@@ -68,8 +80,10 @@ static void half_fill(uint8_t *table, unsigned sites, unsigned keys, struct rng 
     }
 }
 
-unsigned make_starts(uint8_t (*tables)[FC_TABLE_BYTES], enum filling filling, unsigned sites, unsigned keys)
+unsigned make_starts(uint8_t (*tables)[FC_TABLE_BYTES], bool short_lists, enum filling filling, unsigned sites,
+                     unsigned keys)
 {
+    filled_short = short_lists;
     unsigned count = filling == HALF ? MOST_TABLES : 1;
     struct rng rng = {sites * 100 + keys};
     for (unsigned at = 0; at < count; at++) {
@@ -98,7 +112,8 @@ static struct scene alone(enum kind kind, enum filling filling, unsigned sites, 
             [TOUCH] = {TOUCH, {0, at % keys, at, at % 4, 1}},
             [COLD] = {COLD, {at % sites, at * 100, 24}},
         };
-        scene.calls[at] = kinds[kind];
+        scene.calls[at] = kinds[namesake(kind)];
+        scene.calls[at].kind = kind;
     }
     return scene;
 }
@@ -108,14 +123,18 @@ struct scene make_scene(unsigned which, enum filling filling, unsigned sites, un
     if (which < FIRST_MIX)
         return alone((enum kind)which, filling, sites, keys);
     struct scene scene = {.count = SCENE_CALLS};
-    struct rng rng = {which + 1};
+    unsigned mix = (which - FIRST_MIX) % KINDS_OF_MIX;
+    struct rng rng = {mix + 1};
     struct traffic traffic = some_traffic(&rng, sites, keys, 0);
     for (int kind = 0; kind < KINDS; kind++)
-        traffic.weights[kind] = mixes[which - FIRST_MIX].weights[kind];
+        traffic.weights[kind] = mixes[mix].weights[kind];
     for (unsigned at = 0; at < SCENE_CALLS; at++) {
-        scene.calls[at] = some_call(&rng, &traffic);
-        if (scene.calls[at].kind == DRAIN)
-            scene.calls[at].numbers[1] = FC_ENOUGH;
+        struct call *call = &scene.calls[at];
+        *call = some_call(&rng, &traffic);
+        if (call->kind == DRAIN)
+            call->numbers[1] = FC_ENOUGH;
+        if (scene_is_short(which))
+            call->kind = with_short_lists(call->kind);
     }
     return scene;
 }

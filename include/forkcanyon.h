@@ -26,6 +26,9 @@
  * fc_get reads, and later puts of its site depend on what it read. Where many keys are read and few
  * acted on, fc_look reads and no more, and fc_adopt then takes on the dependence for those few.
  *
+ * The fc_short_ calls do the same with shorter lists of what a put depends on; see SHORT LISTS below, and
+ * choose one kind of calls for a table.
+ *
  * A value may be anything to fc_put and fc_get. fc_touch writes touch records, values that say when a
  * file was last used, and fc_cold lists the keys whose records are old; see TOUCH RECORDS below.
  *
@@ -282,6 +285,81 @@ static inline unsigned fc_tier(uint32_t value)
 {
     return value >> 11 & 3;
 }
+
+/*
+ * SHORT LISTS
+ *
+ * With the calls above an update carries all that it depends on, the causes of its causes too: in time a
+ * clock for every site, most of them old news. With the calls below it carries the list of its immediate
+ * causes: the site's own last put, and what the site has got or adopted since. A site takes an update only
+ * after those, and has taken each of those only after its own causes; so nothing comes before what it rests
+ * on, and the same calls on a table of their own give the same codes, the same answers and the same values.
+ *
+ * Each has the arguments, the refusals and the answers of its namesake. fc_open opens the table for both
+ * kinds of calls; fc_look and fc_cold change nothing and serve both.
+ *
+ * One thing differs. Beside FC_WAITS the reply's value, site and clock speak of the immediate causes alone.
+ * What these wait for in their turn is told when they are delivered.
+ *
+ * Which to choose: short lists where what an update carries counts, since few of its eight clocks are not
+ * 0. The calls above where somebody mends links by what FC_WAITS says, since there it names every site of
+ * which a cause is missing, at once.
+ *
+ * Do not mix them on one table, from fc_open to the next fc_open. The table does not say which calls have
+ * changed it, and no call refuses a table of the other kind; each still does what it says. But:
+ * - FC_WAITS then names less than all that is missing, even to fc_deliver. An fc_get takes on what the
+ *   update carried that it reads: if that was put with fc_short_put, only its immediate causes. Say site 0
+ *   has put key 0; site 1 gets it and puts keys 1 and 2; site 2 gets key 2 and puts key 3. Site 3, which
+ *   has heard of nothing, is told to wait for the sites 0 and 1; if site 1's puts were fc_short_put, for
+ *   site 1 alone, and meets site 0 when it has mended that link.
+ * - Lists do not stay short: an fc_get takes on the whole of a long one.
+ * - What is said of a table that was opened and then changed only by these calls is proved of either
+ *   kind, not of both on one table: that a drain leaves no accepted put behind, and that no site takes an
+ *   update before its causes.
+ */
+
+/*
+ * As fc_put. The update depends on what the site's list has; the list is then this put alone.
+ * Refusals: FC_SIZE, FC_UNSOUND, FC_SITE, FC_KEY, FC_SPENT, FC_ROOM.
+ */
+uint32_t fc_short_put(uint64_t site, uint64_t key, uint32_t value,
+                      uint8_t *table, size_t table_len, uint8_t *reply, size_t reply_len);
+
+/*
+ * As fc_get. The put that was read joins the site's list, and nothing of what that one depended on.
+ * Refusals: FC_SIZE, FC_UNSOUND, FC_SITE, FC_KEY.
+ */
+uint32_t fc_short_get(uint64_t site, uint64_t key,
+                      uint8_t *table, size_t table_len, uint8_t *reply, size_t reply_len);
+
+/*
+ * As fc_adopt, with the dependence that fc_short_get takes on.
+ * Refusals: FC_SIZE, FC_UNSOUND, FC_SITE (of site or origin), FC_KEY, FC_CHANGED.
+ */
+uint32_t fc_short_adopt(uint64_t site, uint64_t key, uint64_t origin, uint64_t clock,
+                        uint8_t *table, size_t table_len, uint8_t *reply, size_t reply_len);
+
+/*
+ * As fc_touch; the table is as after fc_short_get and fc_short_put.
+ * Refusals: FC_RANGE, FC_SIZE, FC_UNSOUND, FC_SITE, FC_KEY, FC_RECORD, FC_SPENT, FC_ROOM.
+ */
+uint32_t fc_short_touch(uint64_t site, uint64_t key, uint64_t now, uint64_t toucher, uint64_t tier,
+                        uint8_t *table, size_t table_len, uint8_t *reply, size_t reply_len);
+
+/*
+ * As fc_deliver. FC_WAITS: the reply's value says the sites of which an immediate cause is missing, its
+ * site and clock the lowest of them and up to where.
+ * Refusals: FC_SIZE, FC_UNSOUND, FC_SITE, FC_SAME, FC_NONE, FC_WAITS.
+ */
+uint32_t fc_short_deliver(uint64_t site, uint64_t origin,
+                          uint8_t *table, size_t table_len, uint8_t *reply, size_t reply_len);
+
+/*
+ * As fc_drain: the same deliveries and the same tries.
+ * Refusals: FC_SIZE, FC_UNSOUND, FC_SITE, FC_BUDGET. FC_ENOUGH is always enough.
+ */
+uint32_t fc_short_drain(uint64_t site, uint64_t budget,
+                        uint8_t *table, size_t table_len, uint8_t *reply, size_t reply_len);
 
 /*
  * The five numbers of a reply. For fc_drain, clock holds the deliveries and value the tries; for

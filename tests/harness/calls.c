@@ -2,35 +2,59 @@
 
 #include <stdlib.h>
 
-two_numbers twin_open, twin_get, twin_look, twin_deliver, twin_drain;
-put_call twin_put;
-four_numbers twin_adopt;
-five_numbers twin_touch;
+two_numbers twin_open, twin_get, twin_look, twin_deliver, twin_drain, twin_short_get, twin_short_deliver, twin_short_drain;
+put_call twin_put, twin_short_put;
+four_numbers twin_adopt, twin_short_adopt;
+five_numbers twin_touch, twin_short_touch;
 three_buffers twin_cold;
 
+#define ENGINE(in) \
+    {.get = in##_get, .deliver = in##_deliver, .drain = in##_drain, .put = in##_put, .adopt = in##_adopt, \
+     .touch = in##_touch}
 #define LIBRARY(title, in) \
-    {.name = title, .open = in##_open, .put = in##_put, .get = in##_get, .look = in##_look, .adopt = in##_adopt, \
-     .deliver = in##_deliver, .drain = in##_drain, .touch = in##_touch, .cold = in##_cold}
+    {.name = title, .open = in##_open, .look = in##_look, .cold = in##_cold, .long_lists = ENGINE(in), \
+     .short_lists = ENGINE(in##_short)}
 
 const struct library forkcanyon = LIBRARY("forkcanyon", fc);
 const struct library twin = LIBRARY("twin", twin);
-const char *const kind_names[KINDS] = {"open", "put", "get", "look", "adopt", "deliver", "drain", "touch", "cold"};
+const char *const kind_names[KINDS] = {"open", "put", "get", "look", "adopt", "deliver", "drain", "touch", "cold",
+                                       "short_put", "short_get", "short_adopt", "short_deliver", "short_drain",
+                                       "short_touch"};
+
+static const enum kind namesakes[KINDS] = {
+    [OPEN] = OPEN, [PUT] = PUT, [GET] = GET, [LOOK] = LOOK, [ADOPT] = ADOPT, [DELIVER] = DELIVER, [DRAIN] = DRAIN,
+    [TOUCH] = TOUCH, [COLD] = COLD, [SHORT_PUT] = PUT, [SHORT_GET] = GET, [SHORT_ADOPT] = ADOPT,
+    [SHORT_DELIVER] = DELIVER, [SHORT_DRAIN] = DRAIN, [SHORT_TOUCH] = TOUCH};
+
+enum kind namesake(enum kind kind)
+{
+    return namesakes[kind];
+}
+
+enum kind with_short_lists(enum kind kind)
+{
+    for (enum kind each = SHORT_PUT; each < KINDS; each++)
+        if (namesakes[each] == kind)
+            return each;
+    return kind;
+}
 
 uint32_t make_call(const struct library *library, const struct call *call, const struct buffers *lent)
 {
+    const struct engine *engine = is_short(call->kind) ? &library->short_lists : &library->long_lists;
     const uint64_t *number = call->numbers;
     struct lent table = lent->table, list = lent->list, reply = lent->reply;
     two_numbers *chosen = NULL;
-    switch (call->kind) {
+    switch (namesake(call->kind)) {
     case PUT:
-        return library->put(number[0], number[1], (uint32_t)number[2], table.bytes, table.length, reply.bytes,
-                            reply.length);
+        return engine->put(number[0], number[1], (uint32_t)number[2], table.bytes, table.length, reply.bytes,
+                           reply.length);
     case ADOPT:
-        return library->adopt(number[0], number[1], number[2], number[3], table.bytes, table.length, reply.bytes,
-                              reply.length);
+        return engine->adopt(number[0], number[1], number[2], number[3], table.bytes, table.length, reply.bytes,
+                             reply.length);
     case TOUCH:
-        return library->touch(number[0], number[1], number[2], number[3], number[4], table.bytes, table.length,
-                              reply.bytes, reply.length);
+        return engine->touch(number[0], number[1], number[2], number[3], number[4], table.bytes, table.length,
+                             reply.bytes, reply.length);
     case COLD:
         return library->cold(number[0], number[1], number[2], table.bytes, table.length, list.bytes, list.length,
                              reply.bytes, reply.length);
@@ -38,17 +62,23 @@ uint32_t make_call(const struct library *library, const struct call *call, const
         chosen = library->open;
         break;
     case GET:
-        chosen = library->get;
+        chosen = engine->get;
         break;
     case LOOK:
         chosen = library->look;
         break;
     case DELIVER:
-        chosen = library->deliver;
+        chosen = engine->deliver;
         break;
     case DRAIN:
-        chosen = library->drain;
+        chosen = engine->drain;
         break;
+    case SHORT_PUT:
+    case SHORT_GET:
+    case SHORT_ADOPT:
+    case SHORT_DELIVER:
+    case SHORT_DRAIN:
+    case SHORT_TOUCH:
     case KINDS:
         abort();
     }

@@ -4,7 +4,13 @@
 
 #include "forkcanyon.h"
 
-enum kind { OPEN, PUT, GET, LOOK, ADOPT, DELIVER, DRAIN, TOUCH, COLD, KINDS };
+#include <stdbool.h>
+
+enum kind {
+    OPEN, PUT, GET, LOOK, ADOPT, DELIVER, DRAIN, TOUCH, COLD,
+    SHORT_PUT, SHORT_GET, SHORT_ADOPT, SHORT_DELIVER, SHORT_DRAIN, SHORT_TOUCH,
+    KINDS
+};
 enum { MOST_NUMBERS = 5 };
 
 /* The call's numbers in the order of its arguments; a put's third is its value, which has 32 bits. */
@@ -29,17 +35,34 @@ typedef uint32_t four_numbers(uint64_t, uint64_t, uint64_t, uint64_t, uint8_t *,
 typedef uint32_t five_numbers(uint64_t, uint64_t, uint64_t, uint64_t, uint64_t, uint8_t *, size_t, uint8_t *, size_t);
 typedef uint32_t three_buffers(uint64_t, uint64_t, uint64_t, uint8_t *, size_t, uint8_t *, size_t, uint8_t *, size_t);
 
-struct library {
-    const char *name;
-    two_numbers *open, *get, *look, *deliver, *drain;
+/* The calls that there are with long lists and with short ones. */
+struct engine {
+    two_numbers *get, *deliver, *drain;
     put_call *put;
     four_numbers *adopt;
     five_numbers *touch;
+};
+
+struct library {
+    const char *name;
+    two_numbers *open, *look;
     three_buffers *cold;
+    struct engine long_lists, short_lists;
 };
 
 extern const struct library forkcanyon, twin;
 extern const char *const kind_names[KINDS];
+
+/* The call with long lists that has the same arguments; of a call that both engines share, itself. */
+enum kind namesake(enum kind kind);
+
+/* The call that stands for this one where lists are short. */
+enum kind with_short_lists(enum kind kind);
+
+static inline bool is_short(enum kind kind)
+{
+    return namesake(kind) != kind;
+}
 
 uint32_t make_call(const struct library *library, const struct call *call, const struct buffers *lent);
 

@@ -4,12 +4,6 @@
 
 #include <string.h>
 
-static void set_clock(uint8_t *table, size_t at, unsigned clock)
-{
-    table[at] = (uint8_t)(clock >> 8);
-    table[at + 1] = (uint8_t)clock;
-}
-
 static void set_value(uint8_t *table, size_t at, uint32_t value)
 {
     for (size_t byte = 0; byte < 4; byte++)

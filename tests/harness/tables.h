@@ -13,7 +13,8 @@ enum {
     RECORD = 24,
     RECORD_NAME = 4, /* an entry's origin, an update's key */
     RECORD_CLOCK = 6,
-    RECORD_VECTOR = 8
+    RECORD_VECTOR = 8,
+    VECTOR = 2 * FC_SITES
 };
 
 static inline size_t applied_at(size_t site, size_t origin)
@@ -39,6 +40,12 @@ static inline size_t update_at(size_t origin, unsigned clock)
 static inline unsigned clock_at(const uint8_t *table, size_t at)
 {
     return (unsigned)table[at] << 8 | table[at + 1];
+}
+
+static inline void set_clock(uint8_t *table, size_t at, unsigned clock)
+{
+    table[at] = (uint8_t)(clock >> 8);
+    table[at + 1] = (uint8_t)clock;
 }
 
 static inline uint32_t value_at(const uint8_t *table, size_t at)

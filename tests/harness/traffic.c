@@ -50,9 +50,18 @@ struct traffic some_traffic(struct rng *rng, unsigned sites, unsigned keys, unsi
     for (int kind = PUT; kind < KINDS; kind++)
         traffic.weights[kind] = 1 + (unsigned)rng_below(rng, 8);
     traffic.weights[DELIVER] += 4; /* only among many does one wait for three sites or more */
+    traffic.weights[SHORT_DELIVER] += 4;
     traffic.weights[DRAIN] = (unsigned)rng_below(rng, 2);
+    traffic.weights[SHORT_DRAIN] = (unsigned)rng_below(rng, 2);
     traffic.slow = rng_bits(rng) & rng_bits(rng);
     return traffic;
+}
+
+void keep_one_engine(struct traffic *traffic, bool short_lists)
+{
+    for (enum kind kind = OPEN; kind < KINDS; kind++)
+        if (short_lists ? with_short_lists(kind) != kind : is_short(kind))
+            traffic->weights[kind] = 0;
 }
 
 static uint64_t origin_for(struct rng *rng, const struct traffic *traffic, uint64_t site)
@@ -117,7 +126,7 @@ struct call some_call(struct rng *rng, const struct traffic *traffic)
 
     uint64_t *number = call.numbers;
     number[0] = call.kind == OPEN ? wild_number(rng) : name(rng, traffic, traffic->sites);
-    switch (call.kind) {
+    switch (namesake(call.kind)) {
     case OPEN:
         number[1] = wild_number(rng);
         break;
@@ -143,7 +152,7 @@ struct call some_call(struct rng *rng, const struct traffic *traffic)
         break;
     default:
         number[1] = name(rng, traffic, traffic->keys);
-        number[2] = call.kind == PUT ? some_value(rng) : 0;
+        number[2] = namesake(call.kind) == PUT ? some_value(rng) : 0;
     }
     return call;
 }

@@ -15,6 +15,10 @@ struct traffic {
 };
 
 struct traffic some_traffic(struct rng *rng, unsigned sites, unsigned keys, unsigned wild);
+
+/* Leaves out the calls of the other engine. */
+void keep_one_engine(struct traffic *traffic, bool short_lists);
+
 struct call some_call(struct rng *rng, const struct traffic *traffic);
 
 /* Gives an adopt the origin and clock that a look at its site and key would answer; both are below 8 and 64. */

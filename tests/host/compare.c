@@ -119,11 +119,13 @@ static void compare_some(struct traffic *traffic, uint64_t times)
         compare(some_call(&rng, traffic), right);
 }
 
-/* The traffic that suits the counts of the table that is held. */
-static struct traffic traffic_of_held(unsigned wild)
+/* The traffic that suits the counts of the table that is held, with so many more drains. */
+static struct traffic traffic_of_held(unsigned wild, unsigned drains)
 {
     struct traffic traffic = some_traffic(&rng, held[0] ? held[0] : 1, held[1] ? held[1] : 1, wild);
     traffic.weights[OPEN] = rng_chance(&rng, 20);
+    traffic.weights[DRAIN] += drains;
+    traffic.weights[SHORT_DRAIN] += drains;
     traffic.table = held;
     return traffic;
 }
@@ -135,8 +137,9 @@ static void walk_from_opening(uint64_t length)
         open.numbers[1] = 1 + rng_below(&rng, 3);
     compare(open, right);
     held_is = REACHED;
-    struct traffic traffic = traffic_of_held(2);
+    struct traffic traffic = traffic_of_held(2, 0);
     traffic.weights[OPEN] = 0;
+    keep_one_engine(&traffic, rng_chance(&rng, 50));
     compare_some(&traffic, length);
 }
 
@@ -144,7 +147,7 @@ static void unreached_table(void)
 {
     make_sound_table(&rng, held);
     held_is = SOUND;
-    struct traffic traffic = traffic_of_held(5);
+    struct traffic traffic = traffic_of_held(5, 1);
     compare_some(&traffic, 1 + rng_below(&rng, 40));
 }
 
@@ -154,8 +157,7 @@ static void damaged_table(void)
         make_sound_table(&rng, held);
     damage_table(&rng, held);
     held_is = ANYTHING;
-    struct traffic traffic = traffic_of_held(10);
-    traffic.weights[DRAIN] += 1;
+    struct traffic traffic = traffic_of_held(10, 1);
     compare_some(&traffic, 1 + rng_below(&rng, 3));
 }
 
@@ -168,9 +170,8 @@ static size_t some_length(size_t right)
 static void wrong_lengths(void)
 {
     held_is = ANYTHING;
-    struct traffic traffic = traffic_of_held(5);
+    struct traffic traffic = traffic_of_held(5, 5);
     traffic.weights[OPEN] = 5;
-    traffic.weights[DRAIN] = 5;
     for (int times = 0; times < 5; times++) {
         struct lengths length = {some_length(FC_TABLE_BYTES), some_length(FC_LIST_BYTES), some_length(FC_REPLY_BYTES)};
         if (rng_chance(&rng, 50))
@@ -211,10 +212,12 @@ int main(int argc, char **argv)
     room_build(&table_room);
     room_build(&list_room);
     room_build(&reply_room);
-    const char *what = broken_by_a_look_or_an_adopt(&met.threes);
-    if (what != NULL) {
-        printf("host: FAILED: %s\n", what);
-        return 1;
+    for (int short_lists = 0; short_lists < 2; short_lists++) {
+        const char *what = broken_by_a_look_or_an_adopt(short_lists, &met.engines[short_lists].threes);
+        if (what != NULL) {
+            printf("host: FAILED: %s lists: %s\n", short_lists ? "short" : "long", what);
+            return 1;
+        }
     }
     while (calls < enough || time(NULL) < until)
         round_of_calls();

@@ -44,7 +44,7 @@ static const char *broken_by_drain(enum start start, const struct call *call, co
 bool out_of_range(const struct call *call, size_t list_len)
 {
     const uint64_t *number = call->numbers;
-    switch (call->kind) {
+    switch (namesake(call->kind)) {
     case COLD:
         return number[1] > 65535 || number[2] < 1 || number[2] > 32767 || list_len != FC_LIST_BYTES;
     case TOUCH:
@@ -80,14 +80,20 @@ static const char *broken_by_cold(const struct call *call, const uint8_t *before
     return memcmp(before, after.table, FC_TABLE_BYTES) == 0 ? NULL : "a cold list changes no byte of the table";
 }
 
+/* The call of this kind, with the lists that the other has. */
+static enum kind like(const struct call *other, enum kind kind)
+{
+    return is_short(other->kind) ? with_short_lists(kind) : kind;
+}
+
 static const char *broken_by_touch(const struct call *call, const uint8_t *before, struct outcome after)
 {
     const uint64_t *number = call->numbers;
     uint8_t both[FC_TABLE_BYTES];
     uint32_t value = fc_read(after.reply).value;
     memcpy(both, before, sizeof both);
-    if (make_plain_call(&forkcanyon, (struct call){GET, {number[0], number[1]}}, both) != FC_OK ||
-        make_plain_call(&forkcanyon, (struct call){PUT, {number[0], number[1], value}}, both) != FC_OK ||
+    if (make_plain_call(&forkcanyon, (struct call){like(call, GET), {number[0], number[1]}}, both) != FC_OK ||
+        make_plain_call(&forkcanyon, (struct call){like(call, PUT), {number[0], number[1], value}}, both) != FC_OK ||
         memcmp(both, after.table, sizeof both) != 0)
         return "a touch is its get and its put";
     if (!fc_is_touch(value) || fc_toucher(value) != number[3] || fc_tier(value) != number[4])
@@ -132,7 +138,7 @@ static const char *broken_by_get(const struct call *call, const uint8_t *before,
     if (after.code == FC_OK && (memcmp(before, after.table, DEPENDS) != 0 ||
                                 memcmp(before + STORE, after.table + STORE, FC_TABLE_BYTES - STORE) != 0))
         return "a get changes only what the site depends on";
-    const struct call both[] = {{LOOK, {site, key}}, {ADOPT, {site, key, answer.site, answer.clock}}};
+    const struct call both[] = {{LOOK, {site, key}}, {like(call, ADOPT), {site, key, answer.site, answer.clock}}};
     return ends_so(both, 2, before, after) ? NULL : "a get is a look and the adopt of what it answered";
 }
 
@@ -164,29 +170,61 @@ static const char *broken_by_adopt(const struct call *call, const uint8_t *befor
         return NULL;
     if (number[3] == 0 && memcmp(before, after.table, FC_TABLE_BYTES) != 0)
         return "adopting (0, 0) of a never-written key changes nothing";
-    const struct call get = {GET, {number[0], number[1]}};
+    const struct call get = {like(call, GET), {number[0], number[1]}};
     return ends_so(&get, 1, before, after) ? NULL : "an adopt takes on what a get would, and answers as it";
 }
 
+/* On one table, so beside 10 too: what differs there is what the two kinds of calls have left before. */
+static const char *broken_by_short_lists(const struct call *call, const uint8_t *before, struct outcome after)
+{
+    uint8_t table[FC_TABLE_BYTES], reply[FC_REPLY_BYTES], list[VECTOR];
+    struct call plain = *call;
+    plain.kind = namesake(call->kind);
+    memcpy(table, before, sizeof table);
+    if (answered(plain, table, reply) != after.code || memcmp(reply, after.reply, sizeof reply) != 0)
+        return "a short call answers as its namesake on the same table";
+    if (after.code == FC_OK && plain.kind != DELIVER && plain.kind != DRAIN) {
+        size_t site = call->numbers[0], row = depends_at(site, 0), entry = entry_at(site, call->numbers[1]);
+        memcpy(list, before + row, VECTOR);
+        unsigned origin = before[entry + RECORD_NAME], clock = clock_at(before, entry + RECORD_CLOCK);
+        if (plain.kind != PUT && clock > clock_at(list, 2 * origin))
+            set_clock(list, 2 * origin, clock);
+        if (plain.kind == PUT || plain.kind == TOUCH) {
+            unsigned made = fc_read(reply).clock;
+            memcpy(table + update_at(site, made) + RECORD_VECTOR, list, VECTOR);
+            memset(list, 0, VECTOR);
+            set_clock(list, 2 * site, made);
+        }
+        memcpy(table + row, list, VECTOR);
+    }
+    return memcmp(table, after.table, sizeof table) == 0
+               ? NULL
+               : "a short call leaves what its namesake does, but a get adds one pair and a put leaves its own alone";
+}
+
 /* Reader has the put of origin's, reads it this way and puts another key: what third answers. */
-static struct fc_answer answer_at_third(enum kind way, unsigned origin, unsigned reader, unsigned third)
+static struct fc_answer answer_at_third(enum kind way, bool short_lists, unsigned origin, unsigned reader, unsigned third)
 {
     uint8_t table[FC_TABLE_BYTES], reply[FC_REPLY_BYTES];
     const struct call calls[] = {{OPEN, {FC_SITES, 2}},         {PUT, {origin, 0, 5}}, {DELIVER, {reader, origin}},
                                  {way, {reader, 0, origin, 1}}, {PUT, {reader, 1, 6}}, {DELIVER, {third, reader}}};
-    for (size_t at = 0; at < sizeof calls / sizeof *calls; at++)
-        answered(calls[at], table, reply);
+    for (size_t at = 0; at < sizeof calls / sizeof *calls; at++) {
+        struct call call = calls[at];
+        if (short_lists)
+            call.kind = with_short_lists(call.kind);
+        answered(call, table, reply);
+    }
     return fc_read(reply);
 }
 
-const char *broken_by_a_look_or_an_adopt(uint64_t *threes)
+const char *broken_by_a_look_or_an_adopt(bool short_lists, uint64_t *threes)
 {
     for (unsigned names = 0; names < FC_SITES * FC_SITES * FC_SITES; names++) {
         unsigned origin = names % FC_SITES, reader = names / FC_SITES % FC_SITES, third = names / FC_SITES / FC_SITES;
         if (origin == reader || reader == third || third == origin)
             continue;
-        struct fc_answer looked = answer_at_third(LOOK, origin, reader, third);
-        struct fc_answer adopted = answer_at_third(ADOPT, origin, reader, third);
+        struct fc_answer looked = answer_at_third(LOOK, short_lists, origin, reader, third);
+        struct fc_answer adopted = answer_at_third(ADOPT, short_lists, origin, reader, third);
         if (looked.code != FC_OK || looked.value != 6)
             return "a put that was only looked at is not waited for";
         if (adopted.code != FC_WAITS || adopted.value != 1u << origin || adopted.clock != 1)
@@ -229,23 +267,27 @@ static const char *broken_by_waiting(const struct call *call, const uint8_t *bef
 
 const char *broken_law(enum start start, const struct call *call, const uint8_t *before, struct outcome after)
 {
+    enum kind kind = namesake(call->kind);
     if (start != ANYTHING && after.code == FC_UNSOUND)
         return "every accepted call on a sound table leaves a sound one";
     if (after.code != FC_OK && after.code != FC_BUDGET && memcmp(before, after.table, FC_TABLE_BYTES) != 0)
         return "a refused call keeps all bytes";
+    const char *broken = is_short(call->kind) ? broken_by_short_lists(call, before, after) : NULL;
+    if (broken != NULL)
+        return broken;
     if (after.code == FC_WAITS)
         return broken_by_waiting(call, before, after);
-    if (call->kind == GET)
+    if (kind == GET)
         return broken_by_get(call, before, after);
-    if (call->kind == LOOK)
+    if (kind == LOOK)
         return broken_by_look(call, before, after);
-    if (call->kind == ADOPT)
+    if (kind == ADOPT)
         return broken_by_adopt(call, before, after);
     if (after.code != FC_OK && after.code != FC_BUDGET)
         return NULL;
-    if (call->kind == DELIVER && memcmp(before + DEPENDS, after.table + DEPENDS, STORE - DEPENDS) != 0)
+    if (kind == DELIVER && memcmp(before + DEPENDS, after.table + DEPENDS, STORE - DEPENDS) != 0)
         return "a delivery does not change what the site depends on";
-    switch (call->kind) {
+    switch (kind) {
     case DRAIN:
         return broken_by_drain(start, call, before, after);
     case COLD:

@@ -22,6 +22,6 @@ const char *broken_law(enum start start, const struct call *call, const uint8_t 
 
 /* The same of "a look makes no cause until adopted": whether a put waits for what was read, between any three
    sites. It counts them. */
-const char *broken_by_a_look_or_an_adopt(uint64_t *threes);
+const char *broken_by_a_look_or_an_adopt(bool short_lists, uint64_t *threes);
 
 #endif

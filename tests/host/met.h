@@ -8,12 +8,17 @@
 
 enum { CODES = 17 }; /* no call may answer 12, a schedule's, nor the last, which stands for anything beyond 15 */
 
+/* What is met with long lists and again with short ones. */
+struct met_by_engine {
+    uint64_t never_written, learned, delivered, stopped_late;
+    uint64_t adopted_none, adopted, wide_clocks, hours_kept;
+    uint64_t threes; /* any three sites, tried with a look and with an adopt */
+};
+
 struct met {
     uint64_t codes[KINDS][CODES];
-    uint64_t never_written, joined, delivered, stopped_late;
-    uint64_t looked, adopted_none, adopted, wide_clocks;
-    uint64_t threes; /* any three sites, tried with a look and with an adopt */
-    uint64_t listed, ahead, malformed, hours_kept;
+    struct met_by_engine engines[2]; /* by is_short */
+    uint64_t looked, listed, ahead, malformed;
     uint64_t waits[FC_SITES + 1]; /* deliveries that wait for one site, for two, .. */
     uint64_t waits_for[FC_SITES];
 };

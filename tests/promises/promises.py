@@ -3,9 +3,9 @@ function that asks nothing of its caller and writes a lent buffer or has a call'
 
     Promise (now (BUFFER .entry)).. (Call NUMBER..) (OUTCOME result (now (BUFFER .exit))..)
 
-with every lent buffer, the constructor of the function's name with every number, and every lent buffer again, one that
-is only read as it was at entry, all in the order of the parameters. A cold list has the numbers alone: its promise knows
-the call, since it alone lends a list.
+with the engine where it is given, every lent buffer, the constructor of the function's name with every number, and
+every lent buffer again, one that is only read as it was at entry, all in the order of the parameters. A cold list has
+the numbers alone: its promise knows the call, since it alone lends a list.
 pinned.txt has the definitions that give these words their meaning.
 
 usage: promises.py [ROOT]
@@ -22,16 +22,25 @@ from declared import exported, functions, laws, parameters, report  # noqa: E402
 # Each promise by its file and name, and what puts a call's outcome together for it.
 OUTCOMES = {
     ("table.specs.Answers", "Promise"): ("table.specs.Answers", "served"),
+    ("table.specs.Answers", "PromiseBy"): ("table.specs.Answers", "served"),
     ("forkcanyon.specs.Host", "Promise"): ("forkcanyon.specs.Host", "left"),
+    ("forkcanyon.specs.ShortHost", "Promise"): ("forkcanyon.specs.Host", "left"),
     ("cold.specs.Listing", "Promise"): ("cold.specs.Listing", "listed"),
     ("forkcanyon.specs.ColdHost", "Promise"): ("forkcanyon.specs.ColdHost", "left"),
     ("schedule.specs.Step", "Promise"): ("schedule.specs.Written", "answered"),
 }
 WRITTEN = ("schedule.specs.Written", "Written")
 
+# The promise of the calls with short lists, by their names, and of no other.
+SHORT = ("forkcanyon.specs.ShortHost", "Promise")
+
+# A parameter that is no number of the call: the promise names it first.
+ENGINE = "Engine"
+
 # What a promise says in place of the constructor with the numbers; of Written, the place and the text.
 SAID = {
     "forkcanyon::fc_drain": "(Drain site (min budget mostTries))",
+    "forkcanyon::fc_short_drain": "(Drain site (min budget mostTries))",
     "cold::cold": "s hour threshold",
     "forkcanyon::fc_cold": "site hour threshold",
     "schedule::play": "p",
@@ -82,7 +91,11 @@ class Proved:
 
 
 def constructor(name):
-    return "".join(word.capitalize() for word in name.removeprefix("fc_").split("_"))
+    return "".join(word.capitalize() for word in name.removeprefix("fc_").removeprefix("short_").split("_"))
+
+
+def numbers_of(found):
+    return [each for each, width in found if not width.startswith("&") and width != ENGINE]
 
 
 def expected(said, name, taken, result, promise):
@@ -90,14 +103,15 @@ def expected(said, name, taken, result, promise):
     found, _ = parameters(taken)
     lent = [each for each, width in found if width.startswith("&")]
     written = [each for each, width in found if re.match(r"&(?:'\w+ )?mut\b", width)]
-    numbers = [each for each, width in found if not width.startswith("&")]
+    numbers = numbers_of(found)
+    engine = "".join(f" {each}" for each, width in found if width == ENGINE)
     call = SAID.get(said) or f"({' '.join([constructor(name), *numbers])})"
     exits = " ".join(f"(now ({each} .exit))" for each in written)
     left = " ".join(f"(now ({each} .{'exit' if each in written else 'entry'}))" for each in lent)
     if promise == WRITTEN:
         return f"Written {' '.join(f'(now ({each} .entry))' for each in written)} {call} {result} {exits}"
     entries = " ".join(f"(now ({each} .entry))" for each in lent)
-    return f"{promise[1]} {entries} {call} ({OUTCOMES[promise][1]} {result} {left})"
+    return f"{promise[1]}{engine} {entries} {call} ({OUTCOMES[promise][1]} {result} {left})"
 
 
 def foreign(wanted, promise, taken, result, brought):
@@ -129,11 +143,13 @@ def call_faults(said, exports, taken, ensures, text, proved):
     else:
         yield f"its promise is not {wanted}"
         return
+    if (promise == SHORT) != name.startswith("fc_short_"):
+        yield f"its promise is of {'short lists' if promise == SHORT else 'our engine'}"
     yield from foreign(wanted, promise, taken, clause[1], brought)
     for file, word in [promise, OUTCOMES.get(promise, promise)]:
         if not proved.pins(file, word):
             yield f"tests/promises/pinned.txt does not have its {word}"
-    numbers = [RENAMED.get(each, each) for each, width in parameters(taken)[0] if not width.startswith("&")]
+    numbers = [RENAMED.get(each, each) for each in numbers_of(parameters(taken)[0])]
     if exports and said not in SAID and numbers != proved.fields.get(constructor(name)):
         yield f"its numbers are not those of {constructor(name)}, by name and in order"
     if promise != WRITTEN and name.replace("_", "-") not in proved.theorems:
@@ -162,6 +178,9 @@ def faults(root):
     for path, text in proved.pinned:
         if text not in laws((root / path).read_text()).values():
             yield f"{path}: it no longer has, as tests/promises/pinned.txt says: {text}"
+    for path in sorted({path for path, _ in proved.pinned}):
+        renamed = [name for _, name in names((root / path).read_text()) if " as " in name]
+        yield from (f"{path}: a pinned word has another meaning: {name}" for name in renamed)
     for file in sorted(root.glob("crates/*/src/**/*.rt")):
         text, crate = file.read_text(), file.relative_to(root / "crates").parts[0]
         for name, words, taken, clauses in functions(text):

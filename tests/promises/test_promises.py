@@ -71,7 +71,7 @@ TABLE = "`forkcanyon::fc_get` `forkcanyon::fc_drain`"
 MORE = ["more: it has no ensures", "more: docs/PROMISES.md has no row for it"]
 
 # A public function up to its promise, and the promise.
-HEAD = re.compile(r"(pub (?:extern \"C\" )?fn (\w+)\([^{]*?)(?:\s+ensures \{ λ r\. ⌜ (?:Promise|Written) .*)+")
+HEAD = re.compile(r"(pub (?:extern \"C\" )?fn (\w+)\([^{]*?)(?:\s+ensures \{ λ r\. ⌜ (?:Promise|PromiseBy|Written) .*)+")
 
 
 def not_promised(name, call):
@@ -133,6 +133,31 @@ class Small(unittest.TestCase):
         for said in ["r ≡ 0", kept.replace(".entry)))", ".exit)))")]:
             self.assertEqual(len(self.of(lent.replace("SAID", said), specs=specs, table=table)), 1, said)
         self.assertEqual(self.of(lent.replace("SAID", kept)), ["get: there is no theorem get-no-second", "get: docs/PROMISES.md has no row for it"])
+
+    def test_a_call_with_its_engine(self):
+        kept = "PromiseBy engine (now (t .entry)) (Get site) (left r (now (t .exit)))"
+        taken = CODE + "pub fn get(t: &mut [u8], site: usize, engine: Engine) -> u8 ensures { λ r. ⌜ SAID ⌝ } { 0 }"
+        found = lambda said: " ".join(self.of(taken.replace("SAID", said), table=TABLE + "`forkcanyon::get`"))
+        self.assertIn("not a promise that no second outcome is proved of", found(kept))
+        self.assertIn("its promise is not Promise engine (now", found(kept.replace("PromiseBy engine", "Promise")))
+
+    def test_the_other_engine(self):
+        name = "forkcanyon/specs/NoSecond.antt"
+        words = {"forkcanyon/specs/ShortHost.antt": SPECS["forkcanyon/specs/Host.antt"]}
+        words[name] = SPECS[name] + "use Rattle.forkcanyon.specs.ShortHost.{Promise}\npub fc-short-get-no-second : NoSecond\n"
+        table, pinned = TABLE + "`forkcanyon::fc_short_get`", PINNED + PINNED.replace("/Host", "/ShortHost")
+        short = CODE.partition("#[no_mangle]\npub extern \"C\" fn fc_drain")[0].replace("fc_get", "fc_short_get")
+        self.assertEqual(self.of(short, words, table, pinned), ["fc_short_get: its promise is of our engine"])
+        mine = "specs.Host.{left, mostTries};\nghost use Rattle.forkcanyon.specs.ShortHost.{Promise};"
+        short = short.replace("specs.Host.{left, Promise, mostTries};", mine)
+        self.assertEqual(self.of(short, words, table, pinned), [])
+        other = short.replace("fc_short_get", "fc_get")
+        self.assertEqual(self.of(other, words, table, pinned), ["fc_get: its promise is of short lists"])
+
+    def test_a_pinned_word_renamed(self):
+        name = "forkcanyon/specs/Host.antt"
+        renamed = {name: "use Rattle.rules.specs.Engine.{long as short}\n\n" + SPECS[name]}
+        self.assertEqual(self.of(CODE, renamed), [f"crates/{name}: a pinned word has another meaning: long as short"])
 
     def test_an_empty_promise(self):
         fault = not_promised("fc_get", "(Get site key)")
@@ -208,7 +233,7 @@ class Here(unittest.TestCase):
             shutil.copytree(HERE / "tests" / "promises", root / "tests" / "promises")
             counts = {"table": 4, "touch": 1, "cold": 1, "drain": 1, "forkcanyon": 8, "schedule": 3}
             files = {f"{crate}/src/lib.rt": calls for crate, calls in counts.items()}
-            for name, calls in {**files, "table/src/look.rt": 2, "forkcanyon/src/cold_list.rt": 1}.items():
+            for name, calls in {**files, "table/src/look.rt": 2, "forkcanyon/src/cold_list.rt": 1, "forkcanyon/src/short_lists.rt": 6}.items():
                 file, crate = root / "crates" / name, name.split("/")[0]
                 kept = file.read_text()
                 found = list(HEAD.finditer(kept))

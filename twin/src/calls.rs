@@ -2,8 +2,9 @@
 //! are asked.
 
 use crate::answer::{Answer, Code, Outcome};
+use crate::engine::Engine;
 use crate::sound::is_sound;
-use crate::table::{join, Record, Table, KEYS, PLACES, SITES};
+use crate::table::{Record, Table, KEYS, PLACES, SITES};
 
 pub fn open(table: &mut Table, sites: u64, keys: u64) -> Outcome {
     if !(1..=SITES as u64).contains(&sites) || !(1..=KEYS as u64).contains(&keys) {
@@ -13,15 +14,15 @@ pub fn open(table: &mut Table, sites: u64, keys: u64) -> Outcome {
     Ok(Answer::accepted(0, 0, 0, 0))
 }
 
-pub fn put(table: &mut Table, site: u64, key: u64, value: u32) -> Outcome {
+pub fn put(table: &mut Table, engine: Engine, site: u64, key: u64, value: u32) -> Outcome {
     demand_sound(table)?;
     let site = named_site(table, site)?;
     let key = named_key(table, key)?;
-    put_at(table, site, key, value)
+    put_at(table, engine, site, key, value)
 }
 
 /// A put on a sound table at one of its sites and keys, if there is a clock and room for it.
-pub fn put_at(table: &mut Table, site: usize, key: usize, value: u32) -> Outcome {
+pub fn put_at(table: &mut Table, engine: Engine, site: usize, key: usize, value: u32) -> Outcome {
     let Some(clock) = table.applied(site, site).checked_add(1) else {
         return Err(Answer::refused(Code::ClocksSpent));
     };
@@ -30,20 +31,19 @@ pub fn put_at(table: &mut Table, site: usize, key: usize, value: u32) -> Outcome
         return Err(Answer::refused(Code::NoRoom));
     }
     // The dependency row goes into the update as it was before the put.
-    let mut depends = table.depends_row(site);
+    let depends = table.depends_row(site);
     table.set_update(site, Record { value, name: key as u8, clock, depends });
     table.set_entry(site, key, Record { value, name: site as u8, clock, depends: [0; SITES] });
     table.set_applied(site, site, clock);
-    depends[site] = depends[site].max(clock);
-    table.set_depends_row(site, depends);
+    table.set_depends_row(site, engine.after_put(depends, site, clock));
     Ok(Answer::accepted(key as u8, site as u8, clock, value))
 }
 
-pub fn get(table: &mut Table, site: u64, key: u64) -> Outcome {
+pub fn get(table: &mut Table, engine: Engine, site: u64, key: u64) -> Outcome {
     demand_sound(table)?;
     let site = named_site(table, site)?;
     let key = named_key(table, key)?;
-    Ok(read(key, get_at(table, site, key)))
+    Ok(read(key, get_at(table, engine, site, key)))
 }
 
 /// "Look, which answers as get and changes nothing."
@@ -55,7 +55,7 @@ pub fn look(table: &Table, site: u64, key: u64) -> Outcome {
 }
 
 /// "Adopt, which takes on the dependence for a key whose origin and clock the caller names."
-pub fn adopt(table: &mut Table, site: u64, key: u64, origin: u64, clock: u64) -> Outcome {
+pub fn adopt(table: &mut Table, engine: Engine, site: u64, key: u64, origin: u64, clock: u64) -> Outcome {
     demand_sound(table)?;
     let site = named_site(table, site)?;
     let origin = named_site(table, origin)?;
@@ -65,7 +65,7 @@ pub fn adopt(table: &mut Table, site: u64, key: u64, origin: u64, clock: u64) ->
     if usize::from(entry.name) != origin || u64::from(entry.clock) != clock {
         return Err(Answer::refused(Code::Changed));
     }
-    Ok(read(key, get_at(table, site, key)))
+    Ok(read(key, get_at(table, engine, site, key)))
 }
 
 /// "All three answer alike."
@@ -82,12 +82,9 @@ pub fn look_at(table: &Table, site: usize, key: usize) -> Option<Record> {
 }
 
 /// The same with the dependence on what was read.
-pub fn get_at(table: &mut Table, site: usize, key: usize) -> Option<Record> {
+pub fn get_at(table: &mut Table, engine: Engine, site: usize, key: usize) -> Option<Record> {
     let entry = look_at(table, site, key)?;
-    let origin = usize::from(entry.name);
-    let mut depends = join(table.depends_row(site), entry.depends);
-    depends[origin] = depends[origin].max(entry.clock);
-    table.set_depends_row(site, depends);
+    table.set_depends_row(site, engine.after_get(table.depends_row(site), &entry));
     Some(entry)
 }
 

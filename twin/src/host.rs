@@ -35,3 +35,9 @@ exported!(
     list list_len,
     reply reply_len
 );
+exported!(twin_short_put, crate::short::put, site: u64, key: u64, value: u32);
+exported!(twin_short_get, crate::short::get, site: u64, key: u64);
+exported!(twin_short_adopt, crate::short::adopt, site: u64, key: u64, origin: u64, clock: u64);
+exported!(twin_short_deliver, crate::short::deliver, site: u64, origin: u64);
+exported!(twin_short_drain, crate::short::drain, site: u64, budget: u64);
+exported!(twin_short_touch, crate::short::touch, site: u64, key: u64, now: u64, toucher: u64, tier: u64);

@@ -6,14 +6,17 @@ mod answer;
 mod calls;
 mod cold;
 mod drain;
+mod engine;
 mod host;
 mod schedule;
+pub mod short;
 mod sound;
 mod table;
 mod touch;
 
 pub use answer::{Answer, Code, REPLY_BYTES};
 pub use cold::LIST_BYTES;
+use engine::Engine::Long;
 pub use schedule::listing;
 pub use table::{Table, KEYS, PLACES, SITES, TABLE_BYTES};
 
@@ -24,12 +27,12 @@ pub fn open(sites: u64, keys: u64, table: &mut [u8], reply: &mut [u8]) -> u32 {
 
 /// Writes a value at a site.
 pub fn put(site: u64, key: u64, value: u32, table: &mut [u8], reply: &mut [u8]) -> u32 {
-    edge(table, reply, |table| calls::put(table, site, key, value))
+    edge(table, reply, |table| calls::put(table, Long, site, key, value))
 }
 
 /// Reads a key at a site; what the site puts afterwards depends on what was read.
 pub fn get(site: u64, key: u64, table: &mut [u8], reply: &mut [u8]) -> u32 {
-    edge(table, reply, |table| calls::get(table, site, key))
+    edge(table, reply, |table| calls::get(table, Long, site, key))
 }
 
 /// Reads a key at a site and changes nothing.
@@ -39,7 +42,7 @@ pub fn look(site: u64, key: u64, table: &mut [u8], reply: &mut [u8]) -> u32 {
 
 /// Reads a key at a site as a get does, if it still holds the put of that origin and clock.
 pub fn adopt(site: u64, key: u64, origin: u64, clock: u64, table: &mut [u8], reply: &mut [u8]) -> u32 {
-    edge(table, reply, |table| calls::adopt(table, site, key, origin, clock))
+    edge(table, reply, |table| calls::adopt(table, Long, site, key, origin, clock))
 }
 
 /// Applies at a site the next update of an origin, if nothing it depends on is missing.
@@ -61,7 +64,7 @@ pub fn cold(site: u64, now: u64, threshold: u64, table: &mut [u8], list: &mut [u
 /// Gets a key and puts a touch record in its place.
 pub fn touch(site: u64, key: u64, now: u64, toucher: u64, tier: u64, table: &mut [u8], reply: &mut [u8]) -> u32 {
     let asked = touch::asked(now, toucher, tier);
-    edge_asked(asked, table, reply, |asked, table| touch::touch(table, site, key, asked))
+    edge_asked(asked, table, reply, |asked, table| touch::touch(table, Long, site, key, asked))
 }
 
 fn edge(table: &mut [u8], reply: &mut [u8], call: impl FnOnce(&mut Table) -> answer::Outcome) -> u32 {

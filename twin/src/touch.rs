@@ -2,6 +2,7 @@
 
 use crate::answer::{Answer, Code, Outcome};
 use crate::calls::{demand_sound, get_at, named_key, named_site, put_at};
+use crate::engine::Engine;
 use crate::table::Table;
 
 /// "Hour (16), toucher (3), tier (2), eleven zero bits", from the top.
@@ -35,20 +36,20 @@ pub fn asked(now: u64, toucher: u64, tier: u64) -> Result<Touch, Answer> {
 }
 
 /// "Touch gets a key and puts a record .. and a refusal undoes the get."
-pub fn touch(table: &mut Table, site: u64, key: u64, asked: Touch) -> Outcome {
+pub fn touch(table: &mut Table, engine: Engine, site: u64, key: u64, asked: Touch) -> Outcome {
     demand_sound(table)?;
     let site = named_site(table, site)?;
     let key = named_key(table, key)?;
     let depends = table.depends_row(site);
-    let outcome = got_and_put(table, site, key, asked);
+    let outcome = got_and_put(table, engine, site, key, asked);
     if outcome.is_err() {
         table.set_depends_row(site, depends);
     }
     outcome
 }
 
-fn got_and_put(table: &mut Table, site: usize, key: usize, mut touch: Touch) -> Outcome {
-    let got = get_at(table, site, key);
+fn got_and_put(table: &mut Table, engine: Engine, site: usize, key: usize, mut touch: Touch) -> Outcome {
+    let got = get_at(table, engine, site, key);
     // "With the old hour for toucher 1 or 2, else now."
     if touch.toucher == 1 || touch.toucher == 2 {
         let Some(old) = got.and_then(|entry| Touch::read(entry.value)) else {
@@ -56,5 +57,5 @@ fn got_and_put(table: &mut Table, site: usize, key: usize, mut touch: Touch) -> 
         };
         touch.hour = old.hour;
     }
-    put_at(table, site, key, touch.value())
+    put_at(table, engine, site, key, touch.value())
 }

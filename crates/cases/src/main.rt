@@ -3,6 +3,7 @@ use layout::Table;
 use libc::STDOUT_FILENO;
 use schedule::Schedule;
 use table::Answer;
+use table::Engine;
 
 fn say(case: u32, a: Answer) {
     let mut text = [0u8; Schedule::LINE];
@@ -23,7 +24,7 @@ fn alone(t: &mut [u8]) {
     table::open(t, 1, 2);
     let mut i: usize = 0;
     while i < 17 {
-        say(8, table::put(t, 0, 0, 5));
+        say(8, table::put(t, 0, 0, 5, Engine::Long));
         i += 1;
     }
 }
@@ -31,18 +32,18 @@ fn alone(t: &mut [u8]) {
 // 14: step 6 of the schedule with a budget.
 fn budget(t: &mut [u8], b: u16) {
     table::open(t, 3, 4);
-    table::put(t, 0, 1, 7);
+    table::put(t, 0, 1, 7, Engine::Long);
     table::deliver(t, 1, 0);
-    table::get(t, 1, 1);
-    table::put(t, 1, 2, 9);
+    table::get(t, 1, 1, Engine::Long);
+    table::put(t, 1, 2, 9, Engine::Long);
     table::deliver(t, 2, 1);
     say(14, drain::drain(t, 2, b));
 }
 
 // 16: a buffer or a table that the calls do not take.
 fn calls(t: &mut [u8]) {
-    say(16, table::put(t, 0, 0, 5));
-    say(16, table::get(t, 0, 0));
+    say(16, table::put(t, 0, 0, 5, Engine::Long));
+    say(16, table::get(t, 0, 0, Engine::Long));
     say(16, table::deliver(t, 1, 0));
     say(16, drain::drain(t, 0, 903));
 }

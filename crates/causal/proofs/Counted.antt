@@ -7,7 +7,7 @@ use Rattle.causal.proofs.Puts.{inv}
 use Rattle.causal.proofs.Orders.{put-site-below}
 
 pub puts-counted : PutsCounted
-puts-counted S answers h C o x v c q =
+puts-counted E S answers h C o x v c q =
     let (W, r, A) = C .runs in
     let i = issued h W (inv h W r) o x v c q in
     let l : o < S .n = omega (arith, put-site-below h W r o x v c q) in

@@ -11,6 +11,7 @@ use Rattle.clock.proofs.Maps.{both, eq?, le?, true-or-false}
 use Rattle.clock.proofs.Says.{Says, says-lt, Denies, denies-lt, denies-any}
 use Rattle.clock.proofs.Bits.{bit-above}
 use Rattle.layout.specs.State.{State, lastClock}
+use Rattle.rules.specs.Engine.{ours}
 use Rattle.rules.specs.Sound.{sound, Sound}
 use Rattle.rules.specs.Steps as r
 use Rattle.rules.specs.Steps.{Numbers, Outcome}
@@ -31,23 +32,23 @@ use Rattle.causal.proofs.Related.{put-next, put-related, get-related, d
 
 -- a call with its step, and what is ready exactly when the step is taken
 module _ (S : State) (W : World) (c : Call) {R P : Type 0} (ready : (first (refusals S c) ≡ 0) ↔ R) (same : R ↔ P)
-    (zero : step S c .answer .code ≡ 0) (steps : R → Steps S W c (step S c)) where
-  refines : Refines S W c P (run S c)
+    (zero : step ours S c .answer .code ≡ 0) (steps : R → Steps S W c (step ours S c)) where
+  refines : Refines S W c P (run ours S c)
   refines =
       ⊎-elim
       (λ p. subst (Refines S W c P) (sym (p .1))
       (let k = ready .0 (p .0) in record { exactly = ((λ z. same .0 k), λ z. zero); accepted = λ z. steps k; refused = λ z. absurd (z zero) }))
       (λ p.
-      let e = run-refused S c (p .0) in
+      let e = run-refused ours S c (p .0) in
       record {
         exactly = ((λ z. absurd (p .0 (sym e ∙ z))), λ k. absurd (p .0 (ready .1 (same .1 k))));
         accepted = λ z. absurd (p .0 (sym e ∙ z));
         refused = λ z. ap (λ (o : Outcome). o .after) (p .1);
       })
-      (run-cases S c)
+      (run-cases ours S c)
 
 module _ (S : State) (D : Sound S) (W : World) (A : Abstracts S W) where
-  pub puts : (s x v : ℕ) → Refines S W (Put s x v) ((s < S .n) × (x < S .k) × (S .applied s s ≢ lastClock) × ((t : ℕ) → t < S .n → S .applied s s < S .applied t s + 16)) (run S (Put s x v))
+  pub puts : (s x v : ℕ) → Refines S W (Put s x v) ((s < S .n) × (x < S .k) × (S .applied s s ≢ lastClock) × ((t : ℕ) → t < S .n → S .applied s s < S .applied t s + 16)) (run ours S (Put s x v))
   unfolding refusals step r.put
   puts s x v =
       refines S W (Put s x v) (put-ready S s x) (
@@ -62,7 +63,7 @@ module _ (S : State) (D : Sound S) (W : World) (A : Abstracts S W) where
         call = λ h. ap (λ (c : ℕ). put s x v c ∷ h) (sym (put-next S s x v R W A));
         answer = cc (put-next S s x v R W A);
         abstracts = put-related S s x v R W A;
-        sound = put-sound S s x v R;
+        sound = put-sound ours S s x v R;
       })
 
   -- get, look and adopt answer what the world's entry says
@@ -81,7 +82,7 @@ module _ (S : State) (D : Sound S) (W : World) (A : Abstracts S W) where
   asked : (s x : ℕ) → GetReady S s x ↔ ((s < S .n) × (x < S .k))
   asked s x = ((λ R. (R .site, R .key)), λ p. record { sound = D; site = p .0; key = p .1 })
 
-  pub gets : (s x : ℕ) → Refines S W (Get s x) ((s < S .n) × (x < S .k)) (run S (Get s x))
+  pub gets : (s x : ℕ) → Refines S W (Get s x) ((s < S .n) × (x < S .k)) (run ours S (Get s x))
   unfolding refusals step r.get
   gets s x =
       refines S W (Get s x) (get-ready S s x) (asked s x) refl
@@ -93,10 +94,10 @@ module _ (S : State) (D : Sound S) (W : World) (A : Abstracts S W) where
         call = named s x (R .site) (R .key) (get s x);
         answer = got s x (R .site) (R .key);
         abstracts = get-related S s x R W A;
-        sound = get-sound S s x D;
+        sound = get-sound ours S s x D;
       })
 
-  pub looks : (s x : ℕ) → Refines S W (Look s x) ((s < S .n) × (x < S .k)) (run S (Look s x))
+  pub looks : (s x : ℕ) → Refines S W (Look s x) ((s < S .n) × (x < S .k)) (run ours S (Look s x))
   unfolding refusals step r.look
   looks s x =
       refines S W (Look s x) (get-ready S s x) (asked s x) refl
@@ -125,7 +126,7 @@ module _ (S : State) (D : Sound S) (W : World) (A : Abstracts S W) where
         record { get = R; below = omega (arith, get-origin S s x R); origin = k; clock = cc (e, j) },
   )
 
-  pub adopts : (s x o c : ℕ) → Refines S W (Adopt s x o c) ((s < S .n) × (x < S .k) × (entry s x .site ≡ o) × (entry s x .clock ≡ c)) (run S (Adopt s x o c))
+  pub adopts : (s x o c : ℕ) → Refines S W (Adopt s x o c) ((s < S .n) × (x < S .k) × (entry s x .site ≡ o) × (entry s x .clock ≡ c)) (run ours S (Adopt s x o c))
   unfolding refusals step r.get
   adopts s x o c =
       refines S W (Adopt s x o c) (adopt-ready S s x o c) (asked-entry s x o c) refl
@@ -139,7 +140,7 @@ module _ (S : State) (D : Sound S) (W : World) (A : Abstracts S W) where
         call = named s x p q (adopt s x);
         answer = got s x p q;
         abstracts = get-related S s x (R .get) W A;
-        sound = get-sound S s x D;
+        sound = get-sound ours S s x D;
       })
 
   behind : (s o : ℕ) → s < S .n → o < S .n → (S .applied s o ≢ S .applied o o) ↔ (S .applied s o < S .applied o o)
@@ -167,7 +168,7 @@ module _ (S : State) (D : Sound S) (W : World) (A : Abstracts S W) where
         causes = same-check S D s o (p .0) (p .1) W A lt .0 (p .4);
       }
 
-  pub delivers : (s o : ℕ) → Refines S W (Deliver s o) ((s < S .n) × (o < S .n) × (s ≢ o) × Behind W s o × CausesApplied W s o) (run S (Deliver s o))
+  pub delivers : (s o : ℕ) → Refines S W (Deliver s o) ((s < S .n) × (o < S .n) × (s ≢ o) × Behind W s o × CausesApplied W s o) (run ours S (Deliver s o))
   unfolding refusals step r.deliver
   delivers s o =
       refines S W (Deliver s o) (deliver-ready S s o) (enables s o, readies s o) refl
@@ -179,18 +180,18 @@ module _ (S : State) (D : Sound S) (W : World) (A : Abstracts S W) where
         call = λ h. ap (λ (a : Numbers). update s o (a .clock) (a .key) (a .value) ∷ h) (deliver-numbers S s o R W A);
         answer = deliver-numbers S s o R W A;
         abstracts = deliver-related S s o R W A;
-        sound = deliver-sound S s o R;
+        sound = deliver-sound ours S s o R;
       })
 
 -- ## Which premise of UPDATE fails
 
 module _ (S : State) (D : Sound S) (W : World) (A : Abstracts S W) (s o : ℕ) where
   abbrev a : Numbers
-  a = run S (Deliver s o) .answer
+  a = run ours S (Deliver s o) .answer
 
   given : (e : ℕ) → e ≢ 0 → e ≢ 11 → (a .code ≡ e) ↔ (first (deliver-refusals S s o) ≡ e)
   unfolding refusals
-  given = code-first S (Deliver s o)
+  given = code-first ours S (Deliver s o)
 
   nine : (a .code ≡ 9) ↔ ((s < S .n) × (o < S .n) × (s ≢ o) × (Behind W s o → ⊥))
   nine =
@@ -240,7 +241,7 @@ module _ (S : State) (D : Sound S) (W : World) (A : Abstracts S W) (s o : ℕ) w
     T = tops hs (ten .0 z .1) (ten .0 z .3)
 
     abbrev M : LowestMissing S s o a
-    M = missing-named S s o z
+    M = missing-named ours S s o z
 
     fails : w.waiting W s o .depends (a .site) (a .clock) × (W .applied s (a .site) < a .clock)
     fails =
@@ -273,5 +274,5 @@ module _ (S : State) (D : Sound S) (W : World) (A : Abstracts S W) (s o : ℕ) w
   pub tells : Tells S W s o a
   tells = record { nine = nine; ten = ten; fails = fails; lowest = lowest; greatest = greatest; waits = waits; eight = λ z. M z .below }
 
-pub follows : (S : State) → Sound S → (W : World) → Abstracts S W → Follows S W (run S)
+pub follows : (S : State) → Sound S → (W : World) → Abstracts S W → Follows S W (run ours S)
 follows S D W A = record { puts = λ s x v h. puts S D W A s x v; gets = gets S D W A; looks = looks S D W A; adopts = adopts S D W A; delivers = delivers S D W A; tells = tells S D W A }

@@ -12,6 +12,7 @@ use Rattle.clock.specs.Map.{if_then_else_, _⟨_≔_⟩, _⟨_⟩⟨_≔_⟩}
 use Rattle.clock.specs.Vector.{Vector, join, note}
 use Rattle.clock.proofs.Maps.{choice, at-is, at-is₂, related, related₂}
 use Rattle.layout.specs.State.{State, Entry, Update, withDepends}
+use Rattle.rules.specs.Engine.{ours}
 use Rattle.rules.specs.Sound.{place, Retained, Sound}
 use Rattle.rules.specs.Steps as r
 use Rattle.rules.specs.Steps.{learn}
@@ -72,20 +73,20 @@ module _ (S : State) (s o : ℕ) (R : DeliverReady S s o) (W : World) (A : Abstr
   pub deliver-next : w.due W s o ≡ r.next S s o
   deliver-next = ap suc (same-count S (R .sound) s o (R .site) (R .origin) W A .0)
 
-  pub deliver-numbers : r.deliver S s o .answer ≡ r.done (u′ .key) o (w.due W s o) (u′ .value)
+  pub deliver-numbers : r.deliver ours S s o .answer ≡ r.done (u′ .key) o (w.due W s o) (u′ .value)
   unfolding r.deliver
   deliver-numbers = cc (waits .0, waits .1, deliver-next)
 
-  deliver-entry : (s′ x : ℕ) → s′ < S .n → x < S .k → SameEntry (r.deliver S s o .after .store s′ x) (withUpdate W s o .store s′ x)
+  deliver-entry : (s′ x : ℕ) → s′ < S .n → x < S .k → SameEntry (r.deliver ours S s o .after .store s′ x) (withUpdate W s o .store s′ x)
   unfolding r.deliver
   deliver-entry s′ x p q =
-      subst (λ (z : ℕ). SameEntry (r.deliver S s o .after .store s′ x)
+      subst (λ (z : ℕ). SameEntry (r.deliver ours S s o .after .store s′ x)
       ((W .store ⟨ s ⟩⟨ z ≔ record { answer = wrote (u′ .value) o (w.due W s o); depends = u′ .depends } ⟩) s′ x)) (sym (waits .0))
       (related₂ SameEntry (S .store) (W .store) s (u .key) _ _ s′ x
       (ap (λ (z : ℕ). wrote z o (w.due W s o)) (waits .1) ∙ written (u .value) o (S .applied s o) (w.due W s o) deliver-next, waits .2)
       (A .answers s′ x p q, A .store s′ x p q))
 
-  pub deliver-related : Abstracts (r.deliver S s o .after) (withUpdate W s o)
+  pub deliver-related : Abstracts (r.deliver ours S s o .after) (withUpdate W s o)
   unfolding r.deliver
   deliver-related =
       record {
@@ -93,8 +94,8 @@ module _ (S : State) (s o : ℕ) (R : DeliverReady S s o) (W : World) (A : Abstr
         depends = A .depends;
         answers = λ s′ x p q. deliver-entry s′ x p q .0;
         store = λ s′ x p q. deliver-entry s′ x p q .1;
-        count = λ o′ p. A .count o′ p ∙ sym (deliver-own S s o R o′);
-        updates = λ o′ c p k. A .updates o′ c p (deliver-retained S s o R o′ c k);
+        count = λ o′ p. A .count o′ p ∙ sym (deliver-own ours S s o R o′);
+        updates = λ o′ c p k. A .updates o′ c p (deliver-retained ours S s o R o′ c k);
       }
 
 -- ## Get
@@ -125,7 +126,7 @@ module _ (S : State) (s x : ℕ) (R : GetReady S s x) (W : World) (A : Abstracts
       (tops-note _ _ (e .origin) (e .clock) (omega (arith, get-origin S s x R, R .sound .sites .1))
       (tops-join _ _ _ _ (A .depends s (R .site)) (A .store s x (R .site) (R .key))))
 
-  pub get-related : Abstracts (r.get S s x .after) (withGet W s x)
+  pub get-related : Abstracts (r.get ours S s x .after) (withGet W s x)
   unfolding r.get learn
   get-related = go (eqb (e .clock) 0) refl (W .store s x .answer) (A .answers s x (R .site) (R .key))
     where
@@ -154,7 +155,7 @@ module _ (S : State) (s x : ℕ) (R : GetReady S s x) (W : World) (A : Abstracts
 
 module _ (S : State) (s x v : ℕ) (R : PutReady S s x) (W : World) (A : Abstracts S W) where
   abbrev T : State
-  T = r.put S s x v .after
+  T = r.put ours S s x v .after
 
   abbrev W′ : World
   W′ = withPut W s x v
@@ -187,11 +188,11 @@ module _ (S : State) (s x v : ℕ) (R : PutReady S s x) (W : World) (A : Abstrac
   put-update : (o c : ℕ) → o < S .n → Retained T o c → SameUpdate (T .updates o (place c)) (nth (W′ .updates o) c)
   put-update o c p k =
       ⊎-elim
-      (λ e. rw (put-stands S s x v R o c e, put-newest o c e) (refl, refl, A .depends s (R .site)))
+      (λ e. rw (put-stands ours S s x v R o c e, put-newest o c e) (refl, refl, A .depends s (R .site)))
       (λ e.
       let q = extends (W .updates) s new o c (omega (arith, e .0 .lacks), omega (arith, e .0 .made, A .count o p)) in
       rw (e .1, q .1) (A .updates o c p (e .0)))
-      (put-retained S s x v R o c k)
+      (put-retained ours S s x v R o c k)
 
   put-entry : (s′ y : ℕ) → s′ < S .n → y < S .k → SameEntry (T .store s′ y) (W′ .store s′ y)
   unfolding r.put

@@ -11,6 +11,7 @@ use Rattle.clock.specs.Map.{if_then_else_}
 use Rattle.clock.specs.Lists.{_∈_}
 use Rattle.clock.proofs.Maps.{eq?}
 use Rattle.layout.specs.State.{State}
+use Rattle.rules.specs.Engine.{Engine, ours}
 use Rattle.rules.specs.Sound.{Sound}
 use Rattle.rules.specs.Touch.{touched}
 use Rattle.rules.specs.Refusals.{first}
@@ -46,39 +47,39 @@ pub record Traced (S : State) (h : History) : Type 1 where
 
 -- a call that is figure 7's step, and makes no event where it is refused
 single : {S : State} {h : History} (T : Traced S h) (c : Call) {P : Type 0} → ((n k : ℕ) → c ≢ Open n k)
-    → ((a : Numbers) → a .code ≢ 0 → after-call S c a h ≡ h) → Refines S (T .world) c P (run S c)
-    → Traced (run S c .after) (after-call S c (run S c .answer) h)
+    → ((a : Numbers) → a .code ≢ 0 → after-call ours S c a h ≡ h) → Refines S (T .world) c P (run ours S c)
+    → Traced (run ours S c .after) (after-call ours S c (run ours S c .answer) h)
 single {S} {h} T c other none R =
     ⊎-elim
     (λ z.
     let Q = R .accepted z in
-    let e = counts-kept S c other in
+    let e = counts-kept ours S c other in
     record { world = Q .world; leads = rw (e .0, e .1, Q .call h) (more (T .leads) (Q .step)); related = Q .abstracts; sound = Q .sound })
-    (λ z. rw (R .refused z, none (run S c .answer) z) T)
-    (eq? (run S c .answer .code) 0)
+    (λ z. rw (R .refused z, none (run ours S c .answer) z) T)
+    (eq? (run ours S c .answer .code) 0)
 
 module _ {S : State} {h : History} (T : Traced S h) where
-  put-traced : (s x v : ℕ) → Traced (run S (Put s x v) .after) (after-call S (Put s x v) (run S (Put s x v) .answer) h)
+  put-traced : (s x v : ℕ) → Traced (run ours S (Put s x v) .after) (after-call ours S (Put s x v) (run ours S (Put s x v) .answer) h)
   put-traced s x v =
       single T (Put s x v) (λ n k e. clash (cc)) (λ a z. rw (ne-eqb (a .code) 0 z))
       (puts S (T .sound) (T .world) (T .related) s x v)
 
-  get-traced : (s x : ℕ) → Traced (run S (Get s x) .after) (after-call S (Get s x) (run S (Get s x) .answer) h)
+  get-traced : (s x : ℕ) → Traced (run ours S (Get s x) .after) (after-call ours S (Get s x) (run ours S (Get s x) .answer) h)
   get-traced s x =
       single T (Get s x) (λ n k e. clash (cc)) (λ a z. rw (ne-eqb (a .code) 0 z))
       (gets S (T .sound) (T .world) (T .related) s x)
 
-  look-traced : (s x : ℕ) → Traced (run S (Look s x) .after) (after-call S (Look s x) (run S (Look s x) .answer) h)
+  look-traced : (s x : ℕ) → Traced (run ours S (Look s x) .after) (after-call ours S (Look s x) (run ours S (Look s x) .answer) h)
   look-traced s x =
       single T (Look s x) (λ n k e. clash (cc)) (λ a z. rw (ne-eqb (a .code) 0 z))
       (looks S (T .sound) (T .world) (T .related) s x)
 
-  adopt-traced : (s x o c : ℕ) → Traced (run S (Adopt s x o c) .after) (after-call S (Adopt s x o c) (run S (Adopt s x o c) .answer) h)
+  adopt-traced : (s x o c : ℕ) → Traced (run ours S (Adopt s x o c) .after) (after-call ours S (Adopt s x o c) (run ours S (Adopt s x o c) .answer) h)
   adopt-traced s x o c =
       single T (Adopt s x o c) (λ n k e. clash (cc)) (λ a z. rw (ne-eqb (a .code) 0 z))
       (adopts S (T .sound) (T .world) (T .related) s x o c)
 
-  deliver-traced : (s o : ℕ) → Traced (run S (Deliver s o) .after) (after-call S (Deliver s o) (run S (Deliver s o) .answer) h)
+  deliver-traced : (s o : ℕ) → Traced (run ours S (Deliver s o) .after) (after-call ours S (Deliver s o) (run ours S (Deliver s o) .answer) h)
   deliver-traced s o =
       single T (Deliver s o) (λ n k e. clash (cc)) (λ a z. rw (ne-eqb (a .code) 0 z))
       (delivers S (T .sound) (T .world) (T .related) s o)
@@ -89,56 +90,56 @@ abbrev delivered : (s : ℕ) → Numbers → Event
 delivered s a = update s (a .site) (a .clock) (a .key) (a .value)
 
 -- an accepted delivery answers its origin
-from-origin : (S : State) (s o : ℕ) → run S (Deliver s o) .answer .code ≡ 0 → run S (Deliver s o) .answer .site ≡ o
+from-origin : (S : State) (s o : ℕ) → run ours S (Deliver s o) .answer .code ≡ 0 → run ours S (Deliver s o) .answer .site ≡ o
 unfolding step r.deliver
-from-origin S s o z = ap (λ (x : Outcome). x .answer .site) (run-accepted S (Deliver s o) z .1)
+from-origin S s o z = ap (λ (x : Outcome). x .answer .site) (run-accepted ours S (Deliver s o) z .1)
 
-accepted-delivery : {S : State} {h : History} → Traced S h → (s o : ℕ) → let r = run S (Deliver s o) in r .answer .code ≡ 0 → r .answer .site ≡ o
+accepted-delivery : {S : State} {h : History} → Traced S h → (s o : ℕ) → let r = run ours S (Deliver s o) in r .answer .code ≡ 0 → r .answer .site ≡ o
     → Traced (r .after) (delivered s (r .answer) ∷ h)
 accepted-delivery {S} {h} T s o z e =
-    let r = run S (Deliver s o) in
+    let r = run ours S (Deliver s o) in
     let a = r .answer in
     subst (λ (i : ℕ). Traced (r .after) (update s i (a .clock) (a .key) (a .value) ∷ h)) (sym e)
     (subst (λ (t : Bool). Traced (r .after) (if t then update s o (a .clock) (a .key) (a .value) ∷ h else h)) (eq-eqb (a .code) 0 z) (deliver-traced T s o))
 
-delivers-traced : {s : ℕ} {S R : State} {h : History} {made : List Numbers} → Traced S h → Delivers s S made R → Traced R (map (delivered s) made ++ h)
+delivers-traced : {s : ℕ} {S R : State} {h : History} {made : List Numbers} → Traced S h → Delivers ours s S made R → Traced R (map (delivered s) made ++ h)
 delivers-traced T start = T
 delivers-traced {s} {h = h} T (one-more {made = made} {R = Q} d o z) =
     accepted-delivery (delivers-traced T d) s o z (from-origin Q s o z)
 
-drain-traced : {S : State} {h : History} → Traced S h → (s b : ℕ) → Traced (drain S s b .after) (map (delivered s) (drained S s b .made) ++ h)
-drain-traced {S} T s b = delivers-traced T (drain-delivers S s b .0)
+drain-traced : {S : State} {h : History} → Traced S h → (s b : ℕ) → Traced (drain ours S s b .after) (map (delivered s) (drained ours S s b .made) ++ h)
+drain-traced {S} T s b = delivers-traced T (drain-delivers ours S s b .0)
 
 -- ## Touch and the cold list
 
 -- a call whose step is traced, and that makes no event where it is refused
-stepped : {S : State} {h : History} → Traced S h → (c : Call) → (first (refusals S c) ≡ 0 → Traced (step S c .after) (after-call S c (step S c .answer) h))
-    → ((a : Numbers) → a .code ≢ 0 → after-call S c a h ≡ h) → Traced (run S c .after) (after-call S c (run S c .answer) h)
+stepped : {S : State} {h : History} → Traced S h → (c : Call) → (first (refusals S c) ≡ 0 → Traced (step ours S c .after) (after-call ours S c (step ours S c .answer) h))
+    → ((a : Numbers) → a .code ≢ 0 → after-call ours S c a h ≡ h) → Traced (run ours S c .after) (after-call ours S c (run ours S c .answer) h)
 stepped {S} {h} T c f none =
     ⊎-elim
-    (λ p. subst (λ (o : Outcome). Traced (o .after) (after-call S c (o .answer) h)) (sym (p .1)) (f (p .0)))
-    (λ p. rw (none (run S c .answer) (λ z. p .0 (sym (run-refused S c (p .0)) ∙ z)), p .1) T)
-    (run-cases S c)
+    (λ p. subst (λ (o : Outcome). Traced (o .after) (after-call ours S c (o .answer) h)) (sym (p .1)) (f (p .0)))
+    (λ p. rw (none (run ours S c .answer) (λ z. p .0 (sym (run-refused ours S c (p .0)) ∙ z)), p .1) T)
+    (run-cases ours S c)
 
 -- an accepted get, with its event
-got-traced : {S : State} {h : History} → Traced S h → (s x : ℕ) → GetReady S s x → Traced (r.learn S s x) (get s x (found S s x) ∷ h)
+got-traced : {S : State} {h : History} → Traced S h → (s x : ℕ) → GetReady S s x → Traced (r.learn ours S s x) (get s x (found S s x) ∷ h)
 unfolding step r.get refusals
 got-traced {S} {h} T s x R =
-    let z = accepted-first S (Get s x) refl .1 (get-ready S s x .1 R) in
-    subst (λ (o : Outcome). Traced (o .after) (after-call S (Get s x) (o .answer) h)) (run-accepted S (Get s x) z .1) (get-traced T s x)
+    let z = accepted-first ours S (Get s x) refl .1 (get-ready S s x .1 R) in
+    subst (λ (o : Outcome). Traced (o .after) (after-call ours S (Get s x) (o .answer) h)) (run-accepted ours S (Get s x) z .1) (get-traced T s x)
 
 touch-traced : {S : State} {h : History} → Traced S h → (s x now u w : ℕ)
-    → Traced (run S (Touch s x now u w) .after) (after-call S (Touch s x now u w) (run S (Touch s x now u w) .answer) h)
+    → Traced (run ours S (Touch s x now u w) .after) (after-call ours S (Touch s x now u w) (run ours S (Touch s x now u w) .answer) h)
 unfolding step r.touch r.put refusals
 touch-traced {S} {h} T s x now u w =
     stepped T (Touch s x now u w)
     (λ z.
     let P = touch-ready S s x now u w z .put in
-    let L = r.learn S s x in
+    let L = r.learn ours S s x in
     let v = touched (S .store s x .value) now u w in
     let T₁ = got-traced T s x (record { sound = P .sound; site = P .site; key = P .key }) in
-    let y = accepted-first L (Put s x v) refl .1 (put-ready L s x .1 (apart-ready (learn-apart S s x) P)) in
-    subst (λ (o : Outcome). Traced (o .after) (after-call L (Put s x v) (o .answer) (get s x (found S s x) ∷ h))) (run-accepted L (Put s x v) y .1) (put-traced T₁ s x v))
+    let y = accepted-first ours L (Put s x v) refl .1 (put-ready L s x .1 (apart-ready (learn-apart ours S s x) P)) in
+    subst (λ (o : Outcome). Traced (o .after) (after-call ours L (Put s x v) (o .answer) (get s x (found S s x) ∷ h))) (run-accepted ours L (Put s x v) y .1) (put-traced T₁ s x v))
     (λ a z. rw (ne-eqb (a .code) 0 z))
 
 -- looks, key by key
@@ -154,7 +155,7 @@ looked-traced {S} {h} T s (suc m) p q =
     }
 
 cold-traced : {S : State} {h : History} → Traced S h → (s now U m : ℕ)
-    → Traced (run S (Cold s now U m) .after) (after-call S (Cold s now U m) (run S (Cold s now U m) .answer) h)
+    → Traced (run ours S (Cold s now U m) .after) (after-call ours S (Cold s now U m) (run ours S (Cold s now U m) .answer) h)
 unfolding step r.cold
 cold-traced {S} T s now U m =
     stepped T (Cold s now U m) (λ z. looked-traced T s (S .k) (cold-ready S s now U m z .site) (omega arith)) (λ a z. rw (ne-eqb (a .code) 0 z))
@@ -166,30 +167,30 @@ unfolding opened
 open-traced n k R = record { world = _; leads = begin; related = open-abstracts n k; sound = open-sound n k R }
 
 -- the step of an opening or of a drain of which no condition holds, and a refusal
-opening-traced : {S : State} {h : History} → Traced S h → (n k : ℕ) → Traced (run S (Open n k) .after) (after-call S (Open n k) (run S (Open n k) .answer) h)
+opening-traced : {S : State} {h : History} → Traced S h → (n k : ℕ) → Traced (run ours S (Open n k) .after) (after-call ours S (Open n k) (run ours S (Open n k) .answer) h)
 unfolding refusals step
 opening-traced {S} {h} T n k =
     ⊎-elim
     (λ p. rw (p .1) (open-traced n k (open-ready n k .0 (p .0))))
-    (λ p. rw (ne-eqb _ 0 (λ z. p .0 (sym (run-refused S (Open n k) (p .0)) ∙ z)), p .1) T)
-    (run-cases S (Open n k))
+    (λ p. rw (ne-eqb _ 0 (λ z. p .0 (sym (run-refused ours S (Open n k) (p .0)) ∙ z)), p .1) T)
+    (run-cases ours S (Open n k))
 
-draining-traced : {S : State} {h : History} → Traced S h → (s b : ℕ) → Traced (run S (Drain s b) .after) (after-call S (Drain s b) (run S (Drain s b) .answer) h)
+draining-traced : {S : State} {h : History} → Traced S h → (s b : ℕ) → Traced (run ours S (Drain s b) .after) (after-call ours S (Drain s b) (run ours S (Drain s b) .answer) h)
 unfolding step drain
 draining-traced {S} {h} T s b =
     ⊎-elim
-    (λ p. rw (p .1) (subst (λ t. Traced (drained S s b .after) (if t then map (delivered s) (drained S s b .made) ++ h else h)) (sym made) (drain-traced T s b)))
+    (λ p. rw (p .1) (subst (λ t. Traced (drained ours S s b .after) (if t then map (delivered s) (drained ours S s b .made) ++ h else h)) (sym made) (drain-traced T s b)))
     (λ p.
-    let e = run-refused S (Drain s b) (p .0) in
-    let z : eqb (run S (Drain s b) .answer .code) 0 || eqb (run S (Drain s b) .answer .code) 11 ≡ false =
+    let e = run-refused ours S (Drain s b) (p .0) in
+    let z : eqb (run ours S (Drain s b) .answer .code) 0 || eqb (run ours S (Drain s b) .answer .code) 11 ≡ false =
     rw (e, ne-eqb _ 0 (p .0), ne-eqb _ 11 (no-eleven S (Drain s b))) in
     rw (z, p .1) T)
-    (run-cases S (Drain s b))
+    (run-cases ours S (Drain s b))
   where
-    made : eqb (drained S s b .code) 0 || eqb (drained S s b .code) 11 ≡ true
-    made = ⊎-elim (λ z. rw z) (λ z. rw (z .0)) (drained-code S s b)
+    made : eqb (drained ours S s b .code) 0 || eqb (drained ours S s b .code) 11 ≡ true
+    made = ⊎-elim (λ z. rw z) (λ z. rw (z .0)) (drained-code ours S s b)
 
-pub run-traced : {S : State} {h : History} → Traced S h → (c : Call) → Traced (run S c .after) (after-call S c (run S c .answer) h)
+pub run-traced : {S : State} {h : History} → Traced S h → (c : Call) → Traced (run ours S c .after) (after-call ours S c (run ours S c .answer) h)
 run-traced T (Open n k) = opening-traced T n k
 run-traced T (Put s x v) = put-traced T s x v
 run-traced T (Get s x) = get-traced T s x
@@ -203,35 +204,35 @@ run-traced T (Adopt s x o c) = adopt-traced T s x o c
 -- ## Demand 3
 
 traced-live : {S : State} {h : History} → Traced S h → (s o x v c : ℕ) → s < S .n → put o x v c ∈ h → Lacks h s o c
-    → (o′ : ℕ) × (run S (Deliver s o′) .answer .code ≡ 0)
+    → (o′ : ℕ) × (run ours S (Deliver s o′) .answer .code ≡ 0)
 traced-live {S} {h} T s o x v c p q l =
     let e = run-causal (T .leads) .live s o x v c q l in
     (e .0, delivers S (T .sound) (T .world) (T .related) s (e .0) .exactly .1 (p, e .1, e .2, e .3, e .4))
 
-traced-drains : {S : State} {h : History} → Traced S h → (s b o x v c : ℕ) → run S (Drain s b) .answer .code ≡ 0 → put o x v c ∈ h
-    → Lacks (after-call S (Drain s b) (run S (Drain s b) .answer) h) s o c → ⊥
+traced-drains : {S : State} {h : History} → Traced S h → (s b o x v c : ℕ) → run ours S (Drain s b) .answer .code ≡ 0 → put o x v c ∈ h
+    → Lacks (after-call ours S (Drain s b) (run ours S (Drain s b) .answer) h) s o c → ⊥
 unfolding refusals step
 traced-drains {S} {h} T s b o x v c z q l =
-    let k = run-accepted S (Drain s b) z in
-    let m : Lacks (map (delivered s) (drained S s b .made) ++ h) s o c = rw (eq-eqb (run S (Drain s b) .answer .code) 0 z) at l in
-    let n : drain S s b .after .n ≡ S .n = subst (λ (x : Outcome). x .after .n ≡ S .n) (k .1) (counts-kept S (Drain s b) (λ n k e. clash (cc)) .0) in
-    let e = traced-live (drain-traced T s b) s o x v c (omega (arith, drain-ready S s .0 (k .0) .site)) (in-right (put o x v c) (map (delivered s) (drained S s b .made)) h q) m in
-    drain-ends S s b (subst (λ (x : Outcome). x .answer .code ≡ 0) (k .1) z) (e .0) (e .1)
+    let k = run-accepted ours S (Drain s b) z in
+    let m : Lacks (map (delivered s) (drained ours S s b .made) ++ h) s o c = rw (eq-eqb (run ours S (Drain s b) .answer .code) 0 z) at l in
+    let n : drain ours S s b .after .n ≡ S .n = subst (λ (x : Outcome). x .after .n ≡ S .n) (k .1) (counts-kept ours S (Drain s b) (λ n k e. clash (cc)) .0) in
+    let e = traced-live (drain-traced T s b) s o x v c (omega (arith, drain-ready S s .0 (k .0) .site)) (in-right (put o x v c) (map (delivered s) (drained ours S s b .made)) h q) m in
+    drain-ends ours S s b (subst (λ (x : Outcome). x .answer .code ≡ 0) (k .1) z) (e .0) (e .1)
 
-pub traced-causal : {S : State} {h : History} → Traced S h → Causal S (λ c. run S c .answer) h
+pub traced-causal : {S : State} {h : History} → Traced S h → Causal ours S (Abstracts S) (λ c. run ours S c .answer) h
 traced-causal {S} {h} T = record { runs = (T .world, T .leads, T .related); orders = λ s p. run-causal (T .leads) .orders s; live = traced-live T; drains = traced-drains T }
 
 -- ## Any calls
 
 -- the table and the history after some calls, the oldest first
-abbrev pub played : State → History → List Call → State × History
-played S h [] = (S, h)
-played S h (c ∷ cs) = played (run S c .after) (after-call S c (run S c .answer) h) cs
+abbrev pub played : Engine → State → History → List Call → State × History
+played E S h [] = (S, h)
+played E S h (c ∷ cs) = played E (run E S c .after) (after-call E S c (run E S c .answer) h) cs
 
-played-traced : {S : State} {h : History} → Traced S h → (cs : List Call) → let p = played S h cs in Traced (p .0) (p .1)
+played-traced : {S : State} {h : History} → Traced S h → (cs : List Call) → let p = played ours S h cs in Traced (p .0) (p .1)
 played-traced T [] = T
 played-traced T (c ∷ cs) = played-traced (run-traced T c) cs
 
 -- from a freshly opened table
-pub played-causal : (n k : ℕ) → OpenReady n k → (cs : List Call) → let p = played (opened n k) [] cs in Causal (p .0) (λ c. run (p .0) c .answer) (p .1)
+pub played-causal : (n k : ℕ) → OpenReady n k → (cs : List Call) → let p = played ours (opened n k) [] cs in Causal ours (p .0) (Abstracts (p .0)) (λ c. run ours (p .0) c .answer) (p .1)
 played-causal n k R cs = traced-causal (played-traced (open-traced n k R) cs)

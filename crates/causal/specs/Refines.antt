@@ -10,6 +10,7 @@ use Rattle.clock.specs.Map.{if_then_else_, bit}
 use Rattle.clock.specs.Lists.{_∈_}
 use Rattle.clock.specs.Vector.{Vector, join, note}
 use Rattle.layout.specs.State.{State, lastClock}
+use Rattle.rules.specs.Engine.{Engine, ours}
 use Rattle.rules.specs.Sound.{place, Retained, Sound}
 use Rattle.rules.specs.Steps.{Numbers, done, Outcome}
 use Rattle.rules.specs.Drain.{drained}
@@ -48,6 +49,11 @@ pub record Abstracts (S : State) (W : World) : Type 0 where
   pub updates : (o c : ℕ) → o < S .n → Retained S o c → let u = S .updates o (place c) in let w = nth (W .updates o) c in
       (w .key ≡ u .key) × (w .value ≡ u .value) × Tops (u .depends) (w .depends)
 
+-- of which the counts and what the entries say: all that engines agree on
+pub record Shows (S : State) (W : World) : Type 0 where
+  pub applied : (s o : ℕ) → s < S .n → o < 8 → W .applied s o ≡ S .applied s o
+  pub answers : (s x : ℕ) → s < S .n → x < S .k → let e = S .store s x in W .store s x .answer ≡ answer (e .value) (e .origin) (e .clock)
+
 -- the five numbers that an answer says, and a label: "all three answer alike"
 abbrev pub told : (key : ℕ) → Answer → Numbers
 told x never = done x 0 0 0
@@ -70,23 +76,23 @@ looked S s (suc m) h = look s m (found S s m) ∷ looked S s m h
 
 -- the history after a call: a refused one makes no event, opening starts a new history, a drain has the events of its deliveries, also before an 11,
 -- a cold list its looks, a touch its get and its put
-abbrev pub after-call : State → Call → Numbers → History → History
-after-call S (Open n k) a h = if eqb (a .code) 0 then [] else h
-after-call S (Put s x v) a h = if eqb (a .code) 0 then put s x v (a .clock) ∷ h else h
-after-call S (Get s x) a h = if eqb (a .code) 0 then get s x (answer (a .value) (a .site) (a .clock)) ∷ h else h
-after-call S (Deliver s o) a h = if eqb (a .code) 0 then update s o (a .clock) (a .key) (a .value) ∷ h else h
-after-call S (Drain s b) a h = if eqb (a .code) 0 || eqb (a .code) 11 then map (λ (d : Numbers). update s (d .site) (d .clock) (d .key) (d .value)) (drained S s b .made) ++ h else h
-after-call S (Cold s now T m) a h = if eqb (a .code) 0 then looked S s (S .k) h else h
-after-call S (Touch s x now u r) a h = if eqb (a .code) 0 then put s x (a .value) (a .clock) ∷ get s x (found S s x) ∷ h else h
-after-call S (Look s x) a h = if eqb (a .code) 0 then look s x (answer (a .value) (a .site) (a .clock)) ∷ h else h
-after-call S (Adopt s x o c) a h = if eqb (a .code) 0 then adopt s x (answer (a .value) (a .site) (a .clock)) ∷ h else h
+abbrev pub after-call : Engine → State → Call → Numbers → History → History
+after-call E S (Open n k) a h = if eqb (a .code) 0 then [] else h
+after-call E S (Put s x v) a h = if eqb (a .code) 0 then put s x v (a .clock) ∷ h else h
+after-call E S (Get s x) a h = if eqb (a .code) 0 then get s x (answer (a .value) (a .site) (a .clock)) ∷ h else h
+after-call E S (Deliver s o) a h = if eqb (a .code) 0 then update s o (a .clock) (a .key) (a .value) ∷ h else h
+after-call E S (Drain s b) a h = if eqb (a .code) 0 || eqb (a .code) 11 then map (λ (d : Numbers). update s (d .site) (d .clock) (d .key) (d .value)) (drained E S s b .made) ++ h else h
+after-call E S (Cold s now T m) a h = if eqb (a .code) 0 then looked S s (S .k) h else h
+after-call E S (Touch s x now u r) a h = if eqb (a .code) 0 then put s x (a .value) (a .clock) ∷ get s x (found S s x) ∷ h else h
+after-call E S (Look s x) a h = if eqb (a .code) 0 then look s x (answer (a .value) (a .site) (a .clock)) ∷ h else h
+after-call E S (Adopt s x o c) a h = if eqb (a .code) 0 then adopt s x (answer (a .value) (a .site) (a .clock)) ∷ h else h
 
 -- figure 7's step, its label the call's event and the whole answer; its world is that of the table, which is sound
 pub record Steps (S : State) (W : World) (c : Call) (r : Outcome) : Type 1 where
   pub event : Event
   pub world : World
   pub step : Step (S .n) (S .k) W event world
-  pub call : (h : History) → after-call S c (r .answer) h ≡ event ∷ h
+  pub call : (h : History) → after-call ours S c (r .answer) h ≡ event ∷ h
   pub answer : r .answer ≡ numbers event
   pub abstracts : Abstracts (r .after) world
   pub sound : Sound (r .after)
@@ -121,19 +127,19 @@ pub record Follows (S : State) (W : World) (result : Call → Outcome) : Type 1 
   pub tells : (s o : ℕ) → Tells S W s o (result (Deliver s o) .answer)
 
 -- a table that answers calls so, and the history of its calls since it was opened
-pub record Causal (S : State) (answers : Call → Numbers) (h : History) : Type 1 where
-  -- the history is a run of figure 7, of n sites and k keys, and the table has its world
-  pub runs : (W : World) × Run (S .n) (S .k) h W × Abstracts S W
+pub record Causal (E : Engine) (S : State) (has : World → Type 0) (answers : Call → Numbers) (h : History) : Type 1 where
+  -- the history is a run of figure 7, of n sites and k keys, and the table has of its world what it must
+  pub runs : (W : World) × Run (S .n) (S .k) h W × has W
   -- each site has its order
   pub orders : (s : ℕ) → s < S .n → Ordered h s
   -- while a site lacks an accepted put, some delivery to it is accepted
   pub live : (s o x v c : ℕ) → s < S .n → put o x v c ∈ h → Lacks h s o c → (o′ : ℕ) × (answers (Deliver s o′) .code ≡ 0)
   -- a drain that answers 0 has left its site holding every accepted put
   pub drains : (s b o x v c : ℕ) → answers (Drain s b) .code ≡ 0 → put o x v c ∈ h
-      → Lacks (after-call S (Drain s b) (answers (Drain s b)) h) s o c → ⊥
+      → Lacks (after-call E S (Drain s b) (answers (Drain s b)) h) s o c → ⊥
 
 -- so each put of the history is one that the table counts
 abbrev pub PutsCounted : Type 1
 PutsCounted =
-    (S : State) (answers : Call → Numbers) (h : History) → Causal S answers h → (o x v c : ℕ) → put o x v c ∈ h
+    (E : Engine) (S : State) (answers : Call → Numbers) (h : History) → Causal E S (Abstracts S) answers h → (o x v c : ℕ) → put o x v c ∈ h
     → (o < S .n) × (1 ≤ c) × (c ≤ S .applied o o)

@@ -8,6 +8,7 @@ use native.Mathlib.Omega.{arith}
 use Rattle.clock.specs.Map.{bit}
 use Rattle.clock.specs.Vector.{zeros, note}
 use Rattle.layout.specs.State.{State}
+use Rattle.rules.specs.Engine.{ours}
 use Rattle.rules.specs.Steps.{done, refused}
 use Rattle.rules.specs.Calls.{Open, Put, Get, Deliver, Cold, Look, Adopt}
 use Rattle.causal.specs.World.{∅, just, _∪_, never, wrote, World, nth, withPut, withGet, withUpdate, CausesApplied, put, get, look, adopt, update, PUT, GET, LOOK, ADOPT, UPDATE, start, Run, begin, more}
@@ -173,18 +174,18 @@ says-alike : numbers (look 1 1 never) ∷ numbers (look 1 1 (wrote 7 0 2)) ∷ n
 says-alike = refl
 
 module _ (S : State) (h : History) where
-  accepted : after-call S (Put 0 1 7) (done 1 0 2 7) h ∷ after-call S (Get 2 1) (done 1 0 2 7) h ∷ after-call S (Deliver 2 0) (done 1 0 2 7) h ∷ after-call S (Open 3 4) (refused 0) h ∷ []
+  accepted : after-call ours S (Put 0 1 7) (done 1 0 2 7) h ∷ after-call ours S (Get 2 1) (done 1 0 2 7) h ∷ after-call ours S (Deliver 2 0) (done 1 0 2 7) h ∷ after-call ours S (Open 3 4) (refused 0) h ∷ []
       ≡ (put 0 1 7 2 ∷ h) ∷ (get 2 1 (wrote 7 0 2) ∷ h) ∷ (update 2 0 2 1 7 ∷ h) ∷ [] ∷ []
   accepted = refl
 
-  accepted-alike : after-call S (Look 2 1) (done 1 0 2 7) h ∷ after-call S (Look 2 1) (done 1 0 0 0) h ∷ after-call S (Adopt 2 1 0 2) (done 1 0 2 7) h ∷ after-call S (Adopt 2 1 0 0) (done 1 0 0 0) h ∷ []
+  accepted-alike : after-call ours S (Look 2 1) (done 1 0 2 7) h ∷ after-call ours S (Look 2 1) (done 1 0 0 0) h ∷ after-call ours S (Adopt 2 1 0 2) (done 1 0 2 7) h ∷ after-call ours S (Adopt 2 1 0 0) (done 1 0 0 0) h ∷ []
       ≡ (look 2 1 (wrote 7 0 2) ∷ h) ∷ (look 2 1 never ∷ h) ∷ (adopt 2 1 (wrote 7 0 2) ∷ h) ∷ (adopt 2 1 never ∷ h) ∷ []
   accepted-alike = refl
 
   -- a cold list looks at every key
-  listed : S .k ≡ 2 → after-call S (Cold 1 5 1 64) (done 1 0 0 0) h ≡ look 1 1 (found S 1 1) ∷ look 1 0 (found S 1 0) ∷ h
+  listed : S .k ≡ 2 → after-call ours S (Cold 1 5 1 64) (done 1 0 0 0) h ≡ look 1 1 (found S 1 1) ∷ look 1 0 (found S 1 0) ∷ h
   listed e = ap (λ (k : ℕ). looked S 1 k h) e
 
-  none : after-call S (Put 0 1 7) (refused 8) h ∷ after-call S (Get 2 9) (refused 6) h ∷ after-call S (Deliver 2 0) (refused 9) h ∷ after-call S (Open 9 4) (refused 3) h ∷ after-call S (Look 2 9) (refused 6) h ∷ after-call S (Adopt 2 1 0 3) (refused 15) h ∷ []
+  none : after-call ours S (Put 0 1 7) (refused 8) h ∷ after-call ours S (Get 2 9) (refused 6) h ∷ after-call ours S (Deliver 2 0) (refused 9) h ∷ after-call ours S (Open 9 4) (refused 3) h ∷ after-call ours S (Look 2 9) (refused 6) h ∷ after-call ours S (Adopt 2 1 0 3) (refused 15) h ∷ []
       ≡ h ∷ h ∷ h ∷ h ∷ h ∷ h ∷ []
   none = refl

@@ -4,9 +4,11 @@ use mathlib.Core.List.{[], _∷_, map}
 use lib.ListN.{length}
 use Rattle.layout.specs.State.{the-widths, the-offsets}
 use Rattle.layout.proofs.TableTrips.{bytes-back, state-back, state-fits, bytes-long}
-use Rattle.rules.specs.Cases.{Case, cases, starred}
+use Rattle.rules.specs.Engine.{short, ours}
+use Rattle.rules.specs.Cases.{Case, cases, starred, starred-short}
 use Rattle.rules.specs.TouchCases.{parts, forms, kinds, touches, touched-so, listed-so, words-first}
 use Rattle.rules.specs.LookCases.{looks, looked-so}
+use Rattle.rules.specs.ShortCases.{long-chain, short-chain, shorts, short-so}
 use Rattle.rules.specs.Bounds.{bounds, at-bounds}
 use Rattle.rules.specs.SoundCases.{fact-by-fact}
 use Rattle.laws.proofs.Tested.{sound-tested}
@@ -19,17 +21,21 @@ use Rattle.laws.proofs.Codes.{given-exactly, accepted-exactly, spent-exactly, r
 use Rattle.laws.proofs.Draining.{drain-delivers, drain-prefix, tries-within}
 use Rattle.laws.proofs.Turns.{drain-ends}
 use Rattle.laws.proofs.Tries.{drain-rises, tries-bounded, pending-bounded, budget-enough}
+use Rattle.laws.proofs.Fitting.{ours-fits, short-fits}
+use Rattle.laws.proofs.Sharing.{engine-free}
 use Rattle.causal.proofs.Progress.{run-causal}
 use Rattle.causal.proofs.Vectors.{same-answers}
 use Rattle.causal.proofs.Handed.{applied-exactly}
 use Rattle.causal.proofs.Counted.{puts-counted}
 use Rattle.causal.proofs.Anomaly.{anomalies}
 use Rattle.demands.proofs.Proved.{demand1, demand2, demand3}
+use Rattle.demands.proofs.Agreed.{agreement, demand3-short}
 use Rattle.demands.proofs.Drained.{nothing-delivered}
 use Rattle.demands.proofs.Schedule.{history, history-looking, history-adopting, causal}
 use Rattle.table.specs.NoSecond.{open-no-second, put-no-second, get-no-second, look-no-second, adopt-no-second, deliver-no-second, drain-no-second, touch-no-second}
 use Rattle.cold.specs.NoSecond.{cold-no-second}
 use Rattle.forkcanyon.specs.NoSecond.{fc-open-no-second, fc-put-no-second, fc-get-no-second, fc-look-no-second, fc-adopt-no-second, fc-deliver-no-second, fc-drain-no-second, fc-touch-no-second}
+use Rattle.forkcanyon.specs.ShortNoSecond.{fc-short-put-no-second, fc-short-get-no-second, fc-short-adopt-no-second, fc-short-touch-no-second, fc-short-deliver-no-second, fc-short-drain-no-second}
 use Rattle.forkcanyon.specs.ColdNoSecond.{fc-cold-no-second}
 use Rattle.table.specs.Worked as worked
 use Rattle.forkcanyon.specs.Worked as replies
@@ -54,10 +60,15 @@ eight : length looks ≡ 8
 unfolding looks
 eight = refl
 
+five : length shorts ≡ 5
+unfolding shorts
+five = refl
+
 pub claims : Claims
 claims =
     record {
-      demands = record { one = demand1; nothing-delivered = nothing-delivered; two = demand2; three = demand3 };
+      demands = record { one = demand1 ours ours-fits; nothing-delivered = nothing-delivered; two = demand2; three = demand3 };
+      engines = record { agreement = agreement; one-short = demand1 short short-fits; three-short = demand3-short; engine-free = engine-free };
       histories =
           record {
             every-run = run-causal;
@@ -89,6 +100,12 @@ claims =
             fc-touch = fc-touch-no-second;
             fc-cold = fc-cold-no-second;
             fc-drain = fc-drain-no-second;
+            fc-short-put = fc-short-put-no-second;
+            fc-short-get = fc-short-get-no-second;
+            fc-short-adopt = fc-short-adopt-no-second;
+            fc-short-touch = fc-short-touch-no-second;
+            fc-short-deliver = fc-short-deliver-no-second;
+            fc-short-drain = fc-short-drain-no-second;
             plays = play-no-second;
             written = written-no-second;
           };
@@ -101,6 +118,9 @@ claims =
             touches = (touched-so, ten);
             records = (parts, forms, kinds, listed-so, words-first);
             looks = (looked-so, eight);
+            starred-short = starred-short;
+            chains = (long-chain, short-chain);
+            shorts = (short-so, five);
             fact-by-fact = fact-by-fact;
           };
       bytes =

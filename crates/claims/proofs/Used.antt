@@ -12,29 +12,31 @@ use Rattle.clock.specs.Lists.{_∈_}
 use Rattle.clock.proofs.Maps.{true-or-false}
 use Rattle.layout.specs.State.{State, stateOf, lastClock}
 use Rattle.layout.specs.Ranges.{Bytes}
+use Rattle.rules.specs.Engine.{Engine, long, short, ours}
 use Rattle.rules.specs.Sound.{Sound}
-use Rattle.rules.specs.Steps.{Numbers, Outcome}
+use Rattle.rules.specs.Steps.{Numbers, Outcome, refused}
 use Rattle.rules.specs.Refusals.{get-refusals}
-use Rattle.rules.specs.Calls.{Call, Get, Adopt, Deliver, Drain, refusals, asks, Served, serve}
+use Rattle.rules.specs.Calls.{Call, Put, Get, Adopt, Deliver, Drain, refusals, asks, Served, serve}
+use Rattle.laws.specs.Agreement.{SameTable, SameAnswer}
 use Rattle.causal.specs.World.{Answer, wrote, World, due, waiting, withPut, withGet, withUpdate, Event, put, get, look, adopt, update, Step, PUT, GET, LOOK, ADOPT, UPDATE, Run, more}
 use Rattle.causal.specs.History.{History, Write, Read, Reads, op, order, Ordered, Cause, direct}
 use Rattle.causal.specs.Refines.{Abstracts, Follows, Refines, numbers, after-call, Causal}
 use Rattle.causal.specs.Anomalies.{looked-at}
 use Rattle.causal.proofs.Sites.{clash}
 use Rattle.causal.proofs.Handed.{came, behind, own, arrived, stands, stands-before}
-use Rattle.demands.specs.Demands.{Delivered, none, next}
+use Rattle.demands.specs.Demands.{Demand1, Delivered, none, next}
 use Rattle.demands.proofs.Drained.{same-bytes}
-use Rattle.claims.specs.Uses.{OfBuffer, OfTable, OfHistory, Uses}
+use Rattle.claims.specs.Uses.{OfBuffer, OfTable, OfHistory, OfBoth, Uses}
 use Rattle.claims.proofs.Proved.{claims}
 
 -- ## Demand 1
 
-one-delivery : {s m : ℕ} {t u : List ℕ} → Delivered s t m u → m ≡ 1
-    → (o : ℕ) × (serve t (Deliver s o) .answer .code ≡ 0) × (u ≡ serve t (Deliver s o) .bytes)
+one-delivery : {s m : ℕ} {t u : List ℕ} → Delivered ours s t m u → m ≡ 1
+    → (o : ℕ) × (serve ours t (Deliver s o) .answer .code ≡ 0) × (u ≡ serve ours t (Deliver s o) .bytes)
 one-delivery none z = absurd (omega arith)
 one-delivery {s} (next d o k) z =
     let e = same-bytes d (omega arith) in
-    (o, subst (λ (u : List ℕ). serve u (Deliver s o) .answer .code ≡ 0) e k, ap (λ (u : List ℕ). serve u (Deliver s o) .bytes) e)
+    (o, subst (λ (u : List ℕ). serve ours u (Deliver s o) .answer .code ≡ 0) e k, ap (λ (u : List ℕ). serve ours u (Deliver s o) .bytes) e)
 
 both : {w : Served} {a : Numbers} {u : List ℕ} → w .answer ≡ a → w .bytes ≡ u → w ≡ record { answer = a; bytes = u }
 both p q = λ i. record { answer = p i; bytes = q i }
@@ -49,12 +51,12 @@ of-buffer t b =
       zeros = λ s x z. one (Get s x) .zeros 6 (omega arith) (omega arith) (omega arith) z;
       keeps = λ s o z. one (Deliver s o) .keeps (omega arith) (omega arith);
       delivered = λ s d z. one-delivery (one (Drain s d) .delivered s d refl) z;
-      look-answers = λ s x a e. let (p, q) = claims .looks .look-keeps t b s x in both (p ∙ e) q;
+      look-answers = λ s x a e. let (p, q) = claims .looks .look-keeps ours t b s x in both (p ∙ e) q;
       list-keeps = λ l s now T. claims .looks .cold-keeps t b l s now T;
-      get-both = λ s x a e. sym (λ i. serve (e i .bytes) (Adopt s x (e i .answer .site) (e i .answer .clock))) ∙ claims .looks .get-is-both t b s x;
-      adopts-named = λ s x z. claims .looks .adopt-answers t s x 0 1 z;
-      adopts-all = λ s x z. claims .looks .adopt-is-get t s x 7 lastClock z;
-      none-adopted = λ s x z k. let (p, q) = claims .looks .adopt-never t b s x z k in both p q;
+      get-both = λ s x a e. sym (λ i. serve ours (e i .bytes) (Adopt s x (e i .answer .site) (e i .answer .clock))) ∙ claims .looks .get-is-both ours t b s x;
+      adopts-named = λ s x z. claims .looks .adopt-answers ours t s x 0 1 z;
+      adopts-all = λ s x z. claims .looks .adopt-is-get ours t s x 7 lastClock z;
+      none-adopted = λ s x z k. let (p, q) = claims .looks .adopt-never ours t b s x z k in both p q;
       whole = λ c. one c .whole;
     }
 
@@ -62,11 +64,11 @@ nothing-bytes : Bytes []
 unfolding Bytes
 nothing-bytes i = omega arith
 
-nothing-is-one : serve [] (Get 0 0) .answer .code ≡ 1
+nothing-is-one : {E : Engine} → Demand1 E → serve E [] (Get 0 0) .answer ≡ refused 1
 unfolding asks refusals get-refusals
-nothing-is-one =
-    claims .demands .one [] nothing-bytes (Get 0 0) .given 1 (omega arith) (omega arith) .1
-    (inl (refl, refl))
+nothing-is-one one =
+    let A = one [] nothing-bytes (Get 0 0) in
+    A .zeros 1 (omega arith) (omega arith) (omega arith) (A .given 1 (omega arith) (omega arith) .1 (inl (refl, refl)))
 
 -- ## Demand 2
 
@@ -97,7 +99,7 @@ newest k = cc
 
 -- an accepted call whose event is known
 settled : {S : State} {W : World} {c : Call} {P : Type 0} {r : Outcome} → Refines S W c P r → P → (e : Event)
-    → after-call S c (r .answer) [] ≡ (if eqb (r .answer .code) 0 then e ∷ [] else [])
+    → after-call ours S c (r .answer) [] ≡ (if eqb (r .answer .code) 0 then e ∷ [] else [])
     → (r .answer ≡ numbers (label W e)) × Abstracts (r .after) (leaves W e) × Sound (r .after)
 settled {W = W} {r = r} R p e is =
     let z = R .exactly .1 p in
@@ -109,7 +111,7 @@ settled {W = W} {r = r} R p e is =
       Q .sound,
     )
 
-of-table : (t : List ℕ) (W : World) → Follows (stateOf t) W (λ c. let r = serve t c in record { answer = r .answer; after = stateOf (r .bytes) }) → OfTable t W
+of-table : (t : List ℕ) (W : World) → Follows (stateOf t) W (λ c. let r = serve ours t c in record { answer = r .answer; after = stateOf (r .bytes) }) → OfTable t W
 of-table t W F =
     record {
       puts = λ s x v b p q l f. settled (F .puts s x v b) (p, q, omega arith, f) (put s x v _) refl;
@@ -119,11 +121,11 @@ of-table t W F =
       adopts-none = λ s x p q e. let (a, A, D) = settled (F .adopts s x 0 0) (p, q, rw e, rw e) (adopt s x _) refl in (rw e at a, A, D);
       changed = λ s x v o c o′ c′ e d.
           let R = F .adopts s x o′ c′ in
-          let no : serve t (Adopt s x o′ c′) .answer .code ≢ 0 = λ z. let k = R .exactly .0 z in d (cc (e, k .2)) (cc (e, k .3)) in
+          let no : serve ours t (Adopt s x o′ c′) .answer .code ≢ 0 = λ z. let k = R .exactly .0 z in d (cc (e, k .2)) (cc (e, k .3)) in
           (no, R .refused no);
       changed-none = λ s x o c e d.
           let R = F .adopts s x o c in
-          let no : serve t (Adopt s x o c) .answer .code ≢ 0 = λ z. let k = R .exactly .0 z in d (sym (rw e at (k .2))) (sym (rw e at (k .3))) in
+          let no : serve ours t (Adopt s x o c) .answer .code ≢ 0 = λ z. let k = R .exactly .0 z in d (sym (rw e at (k .2))) (sym (rw e at (k .3))) in
           (no, R .refused no);
       delivers = λ s o p q d b f. settled (F .delivers s o) (p, q, d, b, f) (update s o _ _ _) refl;
       last = λ s x v b e. let R = F .puts s x v b in ((λ z. R .exactly .0 z .2 e), R .refused (λ z. R .exactly .0 z .2 e));
@@ -131,7 +133,7 @@ of-table t W F =
       ten = λ s o p q d b f.
           let T = F .tells s o in
           let z = T .ten .1 (p, q, d, b, f) in
-          let a = serve t (Deliver s o) .answer in (
+          let a = serve ours t (Deliver s o) .answer in (
             T .fails z .1,
             T .fails z .0,
             λ o′ c′ k l. lowest (a .site) o′ (λ h. omega (arith, T .lowest z o′ c′ h k)),
@@ -182,7 +184,7 @@ adopts-newest {s = s} {o} {c} {x} {a = a} (more (more {W = W} R q) p) =
     let k : a ≡ withUpdate W s o .store s x .answer = cc in
     k ∙ rw (eq-eqb s s refl, eq-eqb _ x y) (cc)
 
-of-history : (t : List ℕ) (h : History) → Causal (stateOf t) (λ c. serve t c .answer) h → OfHistory t h
+of-history : (t : List ℕ) (h : History) → Causal ours (stateOf t) (Abstracts (stateOf t)) (λ c. serve ours t c .answer) h → OfHistory t h
 of-history t h C =
     record {
       own-put = λ g s x v c a e.
@@ -210,7 +212,7 @@ of-history t h C =
     }
   where
     counts : (o x v c : ℕ) → put o x v c ∈ h → (o < stateOf t .n) × (1 ≤ c) × (c ≤ stateOf t .applied o o)
-    counts = claims .histories .puts-counted (stateOf t) (λ c. serve t c .answer) h C
+    counts = claims .histories .puts-counted ours (stateOf t) (λ c. serve ours t c .answer) h C
 
     at : {s : ℕ} {g : History} → s < stateOf t .n → h ≡ g → Ordered g s
     at {s} l e = subst (λ (h : History). Ordered h s) e (C .orders s l)
@@ -224,12 +226,38 @@ no-cause : Ordered looked-at 2 → Cause looked-at 0 1 1 1 → ⊥
 unfolding order op
 no-cause O k = ⊎-elim (λ p. p .1) (λ p. p) (O .caused 1 1 2 9 0 1 (inl refl) k .2)
 
+-- ## Both engines
+
+of-both : {l w : List ℕ} → SameTable (stateOf l) (stateOf w) × ((c : Call) → SameAnswer (serve long l c .answer) (serve short w c .answer)) → OfBoth l w
+of-both (T, A) =
+    record {
+      codes = λ c. A c .code;
+      puts = λ s x v z. ap (λ (a : Numbers). a .clock) (A (Put s x v) .others (λ q. omega arith));
+      gets = λ s x z. A (Get s x) .others (λ q. omega (arith, A (Get s x) .code));
+      changed = λ s x o c z. A (Adopt s x o c) .others (λ q. omega arith);
+      waits = λ s o. ((λ z. A (Deliver s o) .code ∙ z), λ z. sym (A (Deliver s o) .code) ∙ z);
+      ten-key = λ s o z. A (Deliver s o) .key;
+      drains = λ s b z. A (Drain s b) .others (λ q. omega arith);
+      counts = λ s o. (T .applied s o, T .sites, T .keys);
+      entries = λ s x. let e = T .entries s x in cc (e .0, e .1, e .2);
+    }
+
 -- ## All
 
 pub uses : Uses
 uses =
     record {
-      nothing = claims .demands .one [] nothing-bytes (Get 0 0) .zeros 1 (omega arith) (omega arith) (omega arith) nothing-is-one;
+      nothing = (nothing-is-one (claims .demands .one), nothing-is-one (claims .engines .one-short));
+      engines = λ t n k z cs f.
+          let A = claims .engines .agreement t n k z cs f in (
+            of-both (A .0, A .1),
+            λ s p. subst (λ (h : History). Ordered h s) (sym (A .2)) (claims .demands .three t n k z cs f .orders s (omega (arith, A .0 .sites))),
+          );
+      either = λ t n k s x now T m. let F = claims .engines .engine-free in (F .opens short ours t n k, F .looks short ours t s x, F .lists short ours t s now T m);
+      shorts = λ t n k z cs f.
+          let C = claims .engines .three-short t n k z cs f in
+          let (W, r, h) = C .runs in
+          ((W, r, h .applied, h .answers), C .live);
       buffers = of-buffer;
       tables = λ t b h S. let p = claims .demands .two t b h S in (p .0 .0, of-table t (p .0 .0) (p .1 (p .0 .0) (p .0 .1)));
       histories = λ t n k z cs f. of-history _ _ (claims .demands .three t n k z cs f);

@@ -7,25 +7,31 @@ use lib.ListN.{length}
 use Rattle.clock.specs.Vector.{Vector}
 use Rattle.layout.specs.State.{table, stateOf, the-widths, the-offsets}
 use Rattle.layout.specs.Theorems.{BytesBack, StateBack, StateFits, BytesLong}
+use Rattle.rules.specs.Engine.{short, ours}
 use Rattle.rules.specs.Calls.{Open, Put, Get, Deliver, Drain, Touch, Look, Adopt, Served, Listed, serve}
 use Rattle.rules.specs.Cases.{Case, cases, Computed}
 use Rattle.rules.specs.TouchCases.{parts, forms, kinds, touches, listed-so, words-first}
 use Rattle.rules.specs.LookCases.{looks}
+use Rattle.rules.specs.ShortCases.{long-chain, short-chain, shorts}
 use Rattle.rules.specs.Bounds.{bounds}
 use Rattle.rules.specs.SoundCases.{Fact, tables, answered, expected}
 use Rattle.laws.specs.Theorems.{SoundTested, AcceptedSound, KeepsSound, RefusedKeeps, CodesListed, FollowsOrder, GivenExactly, AcceptedExactly, SpentExactly, RefusedZeros, MissingNamed, DrainDelivers, DrainRises, DrainEnds, TriesWithin, TriesBounded, PendingBounded, BudgetEnough, DrainPrefix}
 use Rattle.laws.specs.Touches.{TouchBack, FormedExactly, AgeAdds, AgedExactly, KindExactly, KindsListed, ListFilled, ColdAnswers, TouchedSays, TouchIsBoth, ScanKeepsColdness}
 use Rattle.laws.specs.Looks.{LookKeeps, GetIsBoth, AdoptIsGet, AdoptAnswers, AdoptNever, ColdKeeps}
+use Rattle.laws.specs.Agreement.{EngineFree}
 use Rattle.causal.specs.World.{Set, World, Run}
 use Rattle.causal.specs.History.{History, AppliedExactly, CausalRun}
 use Rattle.causal.specs.Anomalies.{looked-at, Anomalies}
-use Rattle.causal.specs.Refines.{Tops, SameAnswers, PutsCounted, Causal}
-use Rattle.demands.specs.Demands.{Demand1, Demand2, Demand3, NothingDelivered, play}
+use Rattle.causal.specs.Refines.{Tops, SameAnswers, Abstracts, PutsCounted, Causal}
+use Rattle.demands.specs.Demands.{Demand1, Demand2, Demand3, Demand3Short, NothingDelivered, play}
+use Rattle.demands.specs.Agreement.{Agreement}
 use Rattle.demands.specs.Schedule.{schedule, by-hand, looking, adopting, adopted}
+use Rattle.table.specs.declared.Engine.{Engine}
 use Rattle.table.specs.NoSecond as table
 use Rattle.table.specs.Worked as worked
 use Rattle.forkcanyon.specs.Host.{mostTries}
 use Rattle.forkcanyon.specs.NoSecond as host
+use Rattle.forkcanyon.specs.ShortNoSecond as short-host
 use Rattle.forkcanyon.specs.ColdHost as fc-cold
 use Rattle.forkcanyon.specs.ColdHost.{Hosted}
 use Rattle.cold.specs.Listing as cold
@@ -39,13 +45,23 @@ use Rattle.schedule.specs.Theorems.{RestIgnored, AlwaysEnds}
 -- the three demands
 pub record Demands : Type 1 where
   -- any call on any buffer answers the first condition that holds, and a refusal leaves every byte
-  pub one : Demand1
+  pub one : Demand1 ours
   -- .. also a drain that delivered nothing, whatever it answers
   pub nothing-delivered : NothingDelivered
   -- put, get and deliver are figure 7's steps, and look and adopt the two halves of its get, from every sound table
   pub two : Demand2
   -- every site has its order, and nothing accepted is held back for good, from every opening
   pub three : Demand3
+
+-- "The engine with short lists"
+pub record OfEngines : Type 1 where
+  -- the two agree, but for the numbers beside a 10, and make one history
+  pub agreement : Agreement
+  -- demands 1 and 3 for short lists
+  pub one-short : Demand1 short
+  pub three-short : Demand3Short
+  -- open, look and the cold list do not depend on the engine
+  pub engine-free : EngineFree
 
 -- what demand 3 rests on and shuts out
 pub record OfHistories : Type 1 where
@@ -59,19 +75,19 @@ pub record OfHistories : Type 1 where
   -- histories that no store may make have no order; what was looked at is not waited for, what was adopted is
   pub anomalies : Anomalies
   -- document 01's schedule, on any buffer, has the history that a reader would write, and is causal
-  pub schedule : (t : List ℕ) → length t ≡ table .width → let p = play (serve t (Open 3 4) .bytes) [] schedule in
-      (p .1 ≡ by-hand) × Causal (stateOf (p .0)) (λ c. serve (p .0) c .answer) by-hand
+  pub schedule : (t : List ℕ) → length t ≡ table .width → let p = play ours (serve ours t (Open 3 4) .bytes) [] schedule in
+      (p .1 ≡ by-hand) × Causal ours (stateOf (p .0)) (Abstracts (stateOf (p .0))) (λ c. serve ours (p .0) c .answer) by-hand
   -- so for a put after a look, which is handed on at once, and a put after an adopt, which is not
-  pub looking : (t : List ℕ) → length t ≡ table .width → play (serve t (Open 3 4) .bytes) [] looking .1 ≡ looked-at
-  pub adopting : (t : List ℕ) → length t ≡ table .width → play (serve t (Open 3 4) .bytes) [] adopting .1 ≡ adopted
+  pub looking : (t : List ℕ) → length t ≡ table .width → play ours (serve ours t (Open 3 4) .bytes) [] looking .1 ≡ looked-at
+  pub adopting : (t : List ℕ) → length t ≡ table .width → play ours (serve ours t (Open 3 4) .bytes) [] adopting .1 ≡ adopted
 
 -- no second outcome: of each public call's promise
 pub record NoSecondOutcome : Type 0 where
   pub opens : (n k : ℕ) → table.NoSecond (Open n k) × table.One (Open n k)
-  pub puts : (s x v : ℕ) → table.NoSecond (Put s x v) × table.One (Put s x v)
-  pub gets : (s x : ℕ) → table.NoSecond (Get s x) × table.One (Get s x)
+  pub puts : (e : Engine) (s x v : ℕ) → table.NoSecondBy e (Put s x v) × table.OneBy e (Put s x v)
+  pub gets : (e : Engine) (s x : ℕ) → table.NoSecondBy e (Get s x) × table.OneBy e (Get s x)
   pub looks : (s x : ℕ) → table.NoSecond (Look s x) × table.One (Look s x)
-  pub adopts : (s x o c : ℕ) → table.NoSecond (Adopt s x o c) × table.One (Adopt s x o c)
+  pub adopts : (e : Engine) (s x o c : ℕ) → table.NoSecondBy e (Adopt s x o c) × table.OneBy e (Adopt s x o c)
   pub delivers : (s o : ℕ) → table.NoSecond (Deliver s o) × table.One (Deliver s o)
   pub drains : (s b : ℕ) → table.NoSecond (Drain s b) × table.One (Drain s b)
   pub fc-open : (n k : ℕ) → host.NoSecond (Open n k) × host.One (Open n k)
@@ -80,13 +96,19 @@ pub record NoSecondOutcome : Type 0 where
   pub fc-look : (s x : ℕ) → host.NoSecond (Look s x) × host.One (Look s x)
   pub fc-adopt : (s x o c : ℕ) → host.NoSecond (Adopt s x o c) × host.One (Adopt s x o c)
   pub fc-deliver : (s o : ℕ) → host.NoSecond (Deliver s o) × host.One (Deliver s o)
-  pub touches : (s x hour u r : ℕ) → table.NoSecond (Touch s x hour u r) × table.One (Touch s x hour u r)
+  pub touches : (e : Engine) (s x hour u r : ℕ) → table.NoSecondBy e (Touch s x hour u r) × table.OneBy e (Touch s x hour u r)
   pub lists : (t l : List ℕ) (s hour T : ℕ)
       → ((o o′ : Listed) → cold.Promise t l s hour T o → cold.Promise t l s hour T o′ → o ≡ o′) × ((o : Listed) × cold.Promise t l s hour T o)
   pub fc-touch : (s x hour u r : ℕ) → host.NoSecond (Touch s x hour u r) × host.One (Touch s x hour u r)
   pub fc-cold : (t l r : List ℕ) (s hour T : ℕ)
       → ((o o′ : Hosted) → fc-cold.Promise t l r s hour T o → fc-cold.Promise t l r s hour T o′ → o ≡ o′) × ((o : Hosted) × fc-cold.Promise t l r s hour T o)
   pub fc-drain : (s b : ℕ) → host.NoSecond (Drain s (min b mostTries)) × host.One (Drain s (min b mostTries))
+  pub fc-short-put : (s x v : ℕ) → short-host.NoSecond (Put s x v) × short-host.One (Put s x v)
+  pub fc-short-get : (s x : ℕ) → short-host.NoSecond (Get s x) × short-host.One (Get s x)
+  pub fc-short-adopt : (s x o c : ℕ) → short-host.NoSecond (Adopt s x o c) × short-host.One (Adopt s x o c)
+  pub fc-short-touch : (s x hour u r : ℕ) → short-host.NoSecond (Touch s x hour u r) × short-host.One (Touch s x hour u r)
+  pub fc-short-deliver : (s o : ℕ) → short-host.NoSecond (Deliver s o) × short-host.One (Deliver s o)
+  pub fc-short-drain : (s b : ℕ) → short-host.NoSecond (Drain s (min b mostTries)) × short-host.One (Drain s (min b mostTries))
   pub plays : (t : List ℕ) (p : Step) → ((w w′ : Served) → Promise t p w → Promise t p w′ → w ≡ w′) × ((w : Served) × Promise t p w)
   pub written : {before text after after′ : List ℕ} {at end end′ : ℕ} → Written before at text end after → Written before at text end′ after′
       → (end ≡ end′) × (after ≡ after′)
@@ -98,16 +120,20 @@ Says {A} a = A
 -- worked cases, computed from the rules
 pub record OfCases : Type 0 where
   -- document 01's starred cases and its schedule; each number and step at its bounds
-  pub starred : Computed cases
-  pub at-bounds : Computed bounds
+  pub starred : Computed ours cases
+  pub at-bounds : Computed ours bounds
   -- all of them: case 15 has two tables, 0 is the schedule
   pub which : map (λ (c : Case). c .number) cases ≡ 1 ∷ 3 ∷ 4 ∷ 5 ∷ 6 ∷ 7 ∷ 9 ∷ 10 ∷ 11 ∷ 12 ∷ 13 ∷ 15 ∷ 15 ∷ 0 ∷ []
   pub how-many : length bounds ≡ 26
   -- touch and the cold list; records, kinds and the list at their edges
-  pub touches : Computed touches × (length touches ≡ 10)
+  pub touches : Computed ours touches × (length touches ≡ 10)
   pub records : Says parts × Says forms × Says kinds × Says listed-so × Says words-first
   -- look and adopt
-  pub looks : Computed looks × (length looks ≡ 8)
+  pub looks : Computed ours looks × (length looks ≡ 8)
+  -- short lists answer document 01's cases too; a chain of three sites in both, and what a short put leaves and a short get adds
+  pub starred-short : Computed short cases
+  pub chains : Says long-chain × Says short-chain
+  pub shorts : Computed short shorts × (length shorts ≡ 5)
   -- for each fact of soundness a table that breaks it, and a neighbour that is sound
   pub fact-by-fact : (f : Fact) → map answered (tables f) ≡ map expected (tables f)
 
@@ -212,6 +238,7 @@ pub record OfListings : Type 0 where
 
 pub record Claims : Type 1 where
   pub demands : Demands
+  pub engines : OfEngines
   pub histories : OfHistories
   pub outcomes : NoSecondOutcome
   pub cases : OfCases

@@ -2,81 +2,82 @@
 use mathlib.Core.Path.{_≡_}
 use mathlib.Core.Bool.{true, false}
 use mathlib.Core.List.{List, [], _∷_}
-use mathlib.Core.Logic.{_≢_}
+use mathlib.Core.Logic.{_≢_, _↔_}
 use Prim.Native.Nat.{ℕ, suc, _+_, _^_, _≤_, _<_}
 use lib.ListN.{length}
 use Rattle.clock.specs.Map.{bit}
 use Rattle.clock.specs.Lists.{_∈_}
 use Rattle.layout.specs.State.{table, stateOf, lastClock}
 use Rattle.layout.specs.Ranges.{Bytes}
+use Rattle.rules.specs.Engine.{long, short, ours}
 use Rattle.rules.specs.Sound.{Sound}
-use Rattle.rules.specs.Steps.{Numbers, refused, done}
-use Rattle.rules.specs.Calls.{Call, Open, Put, Get, Look, Adopt, Deliver, Drain, asks, serve, serve-list}
+use Rattle.rules.specs.Steps.{Numbers, refused, done, seen}
+use Rattle.rules.specs.Calls.{Call, Open, Put, Get, Look, Adopt, Deliver, Drain, Cold, asks, serve, serve-list}
 use Rattle.rules.specs.Refusals.{first}
 use Rattle.laws.specs.Theorems.{Clear, needed}
-use Rattle.causal.specs.World.{Answer, never, wrote, World, due, waiting, withPut, withGet, withUpdate, Behind, CausesApplied, put, get, look, adopt, update}
-use Rattle.causal.specs.History.{History, Cause, Lacks}
-use Rattle.causal.specs.Refines.{Abstracts, numbers, after-call}
+use Rattle.causal.specs.World.{Answer, never, wrote, World, due, waiting, withPut, withGet, withUpdate, Behind, CausesApplied, put, get, look, adopt, update, Run}
+use Rattle.causal.specs.History.{History, Cause, Ordered, Lacks}
+use Rattle.causal.specs.Refines.{Abstracts, numbers, found, after-call}
 use Rattle.causal.specs.Anomalies.{NoOrder, forged, twice, second-first, effect-alone, effect-first, far-effect-first, forgotten, blind, early, prophecy, early-look, blind-look, adopted-alone, adopted-unseen, looked-at}
 use Rattle.demands.specs.Demands.{play}
 
 -- demand 1: any buffer
 pub record OfBuffer (t : List ℕ) : Type 0 where
   -- a call is accepted where no condition holds, and only there
-  pub accepts : (s x : ℕ) → Clear (asks t (Get s x)) → serve t (Get s x) .answer .code ≡ 0
-  pub only : (s x : ℕ) → serve t (Get s x) .answer .code ≡ 0 → Clear (asks t (Get s x))
+  pub accepts : (s x : ℕ) → Clear (asks t (Get s x)) → serve ours t (Get s x) .answer .code ≡ 0
+  pub only : (s x : ℕ) → serve ours t (Get s x) .answer .code ≡ 0 → Clear (asks t (Get s x))
   -- a drain without a budget answers 11 where a try is due
-  pub spent : (s : ℕ) → serve t (Drain s 0) .answer .code ≡ 11 → 0 < needed (stateOf t) s
+  pub spent : (s : ℕ) → serve ours t (Drain s 0) .answer .code ≡ 11 → 0 < needed ours (stateOf t) s
   -- "the other numbers are 0", and "the table keeps all bytes"
-  pub zeros : (s x : ℕ) → serve t (Get s x) .answer .code ≡ 6 → serve t (Get s x) .answer ≡ refused 6
-  pub keeps : (s o : ℕ) → serve t (Deliver s o) .answer .code ≡ 10 → serve t (Deliver s o) .bytes ≡ t
+  pub zeros : (s x : ℕ) → serve ours t (Get s x) .answer .code ≡ 6 → serve ours t (Get s x) .answer ≡ refused 6
+  pub keeps : (s o : ℕ) → serve ours t (Deliver s o) .answer .code ≡ 10 → serve ours t (Deliver s o) .bytes ≡ t
   -- a drain that made one delivery left what that delivery leaves
-  pub delivered : (s b : ℕ) → serve t (Drain s b) .answer .clock ≡ 1
-      → (o : ℕ) × (serve t (Deliver s o) .answer .code ≡ 0) × (serve t (Drain s b) .bytes ≡ serve t (Deliver s o) .bytes)
+  pub delivered : (s b : ℕ) → serve ours t (Drain s b) .answer .clock ≡ 1
+      → (o : ℕ) × (serve ours t (Deliver s o) .answer .code ≡ 0) × (serve ours t (Drain s b) .bytes ≡ serve ours t (Deliver s o) .bytes)
   -- whatever a get answers, a look does, and leaves the table, as a list does; the adopt of that answer is the get, a refused one too
-  pub look-answers : (s x : ℕ) (a : Numbers) → serve t (Get s x) .answer ≡ a → serve t (Look s x) ≡ record { answer = a; bytes = t }
+  pub look-answers : (s x : ℕ) (a : Numbers) → serve ours t (Get s x) .answer ≡ a → serve ours t (Look s x) ≡ record { answer = a; bytes = t }
   pub list-keeps : (l : List ℕ) (s now T : ℕ) → serve-list t l s now T .bytes ≡ t
-  pub get-both : (s x : ℕ) (a : Numbers) → serve t (Look s x) ≡ record { answer = a; bytes = t } → serve t (Adopt s x (a .site) (a .clock)) ≡ serve t (Get s x)
+  pub get-both : (s x : ℕ) (a : Numbers) → serve ours t (Look s x) ≡ record { answer = a; bytes = t } → serve ours t (Adopt s x (a .site) (a .clock)) ≡ serve ours t (Get s x)
   -- an adopt answers what was named, and is the get; (0, 0) is accepted and changes nothing
-  pub adopts-named : (s x : ℕ) → let a = serve t (Adopt s x 0 1) .answer in a .code ≡ 0 → a ≡ done x 0 1 (stateOf t .store s x .value)
-  pub adopts-all : (s x : ℕ) → serve t (Adopt s x 7 lastClock) .answer .code ≡ 0 → serve t (Adopt s x 7 lastClock) ≡ serve t (Get s x)
-  pub none-adopted : (s x : ℕ) → first (asks t (Look s x)) ≡ 0 → stateOf t .store s x .clock ≡ 0 → serve t (Adopt s x 0 0) ≡ record { answer = done x 0 0 0; bytes = t }
+  pub adopts-named : (s x : ℕ) → let a = serve ours t (Adopt s x 0 1) .answer in a .code ≡ 0 → a ≡ done x 0 1 (stateOf t .store s x .value)
+  pub adopts-all : (s x : ℕ) → serve ours t (Adopt s x 7 lastClock) .answer .code ≡ 0 → serve ours t (Adopt s x 7 lastClock) ≡ serve ours t (Get s x)
+  pub none-adopted : (s x : ℕ) → first (asks t (Look s x)) ≡ 0 → stateOf t .store s x .clock ≡ 0 → serve ours t (Adopt s x 0 0) ≡ record { answer = done x 0 0 0; bytes = t }
   -- the buffer stays as long
-  pub whole : (c : Call) → (length (serve t c .bytes) ≡ length t) × Bytes (serve t c .bytes)
+  pub whole : (c : Call) → (length (serve ours t c .bytes) ≡ length t) × Bytes (serve ours t c .bytes)
 
 -- demand 2: a sound table and its world
 pub record OfTable (t : List ℕ) (W : World) : Type 1 where
   -- put, get, look and deliver answer as figure 7's labels say, and leave figure 7's worlds
   pub puts : (s x v : ℕ) → v < 256 ^ 4 → s < stateOf t .n → x < stateOf t .k → stateOf t .applied s s < lastClock
       → ((s′ : ℕ) → s′ < stateOf t .n → stateOf t .applied s s < stateOf t .applied s′ s + 16)
-      → let r = serve t (Put s x v) in
+      → let r = serve ours t (Put s x v) in
       (r .answer ≡ numbers (put s x v (suc (length (W .updates s))))) × Abstracts (stateOf (r .bytes)) (withPut W s x v) × Sound (stateOf (r .bytes))
-  pub gets : (s x : ℕ) → s < stateOf t .n → x < stateOf t .k → let r = serve t (Get s x) in
+  pub gets : (s x : ℕ) → s < stateOf t .n → x < stateOf t .k → let r = serve ours t (Get s x) in
       (r .answer ≡ numbers (get s x (W .store s x .answer))) × Abstracts (stateOf (r .bytes)) (withGet W s x) × Sound (stateOf (r .bytes))
-  pub looks : (s x : ℕ) → s < stateOf t .n → x < stateOf t .k → let r = serve t (Look s x) in
+  pub looks : (s x : ℕ) → s < stateOf t .n → x < stateOf t .k → let r = serve ours t (Look s x) in
       (r .answer ≡ numbers (look s x (W .store s x .answer))) × Abstracts (stateOf (r .bytes)) W × Sound (stateOf (r .bytes))
   -- an adopt of the entry's put, or of (0, 0) where it has none, takes on what a get does; of any other put it leaves the table
-  pub adopts : (s x v o c : ℕ) → s < stateOf t .n → x < stateOf t .k → W .store s x .answer ≡ wrote v o c → let r = serve t (Adopt s x o c) in
+  pub adopts : (s x v o c : ℕ) → s < stateOf t .n → x < stateOf t .k → W .store s x .answer ≡ wrote v o c → let r = serve ours t (Adopt s x o c) in
       (r .answer ≡ numbers (adopt s x (wrote v o c))) × Abstracts (stateOf (r .bytes)) (withGet W s x) × Sound (stateOf (r .bytes))
-  pub adopts-none : (s x : ℕ) → s < stateOf t .n → x < stateOf t .k → W .store s x .answer ≡ never → let r = serve t (Adopt s x 0 0) in
+  pub adopts-none : (s x : ℕ) → s < stateOf t .n → x < stateOf t .k → W .store s x .answer ≡ never → let r = serve ours t (Adopt s x 0 0) in
       (r .answer ≡ numbers (adopt s x never)) × Abstracts (stateOf (r .bytes)) (withGet W s x) × Sound (stateOf (r .bytes))
-  pub changed : (s x v o c o′ c′ : ℕ) → W .store s x .answer ≡ wrote v o c → (o ≡ o′ → c ≡ c′ → ⊥) → let r = serve t (Adopt s x o′ c′) in
+  pub changed : (s x v o c o′ c′ : ℕ) → W .store s x .answer ≡ wrote v o c → (o ≡ o′ → c ≡ c′ → ⊥) → let r = serve ours t (Adopt s x o′ c′) in
       (r .answer .code ≢ 0) × (stateOf (r .bytes) ≡ stateOf t)
-  pub changed-none : (s x o c : ℕ) → W .store s x .answer ≡ never → (o ≡ 0 → c ≡ 0 → ⊥) → let r = serve t (Adopt s x o c) in
+  pub changed-none : (s x o c : ℕ) → W .store s x .answer ≡ never → (o ≡ 0 → c ≡ 0 → ⊥) → let r = serve ours t (Adopt s x o c) in
       (r .answer .code ≢ 0) × (stateOf (r .bytes) ≡ stateOf t)
-  pub delivers : (s o : ℕ) → s < stateOf t .n → o < stateOf t .n → s ≢ o → Behind W s o → CausesApplied W s o → let r = serve t (Deliver s o) in
+  pub delivers : (s o : ℕ) → s < stateOf t .n → o < stateOf t .n → s ≢ o → Behind W s o → CausesApplied W s o → let r = serve ours t (Deliver s o) in
       (r .answer ≡ numbers (update s o (due W s o) (waiting W s o .key) (waiting W s o .value)))
       × Abstracts (stateOf (r .bytes)) (withUpdate W s o) × Sound (stateOf (r .bytes))
   -- a put past the last clock is refused, and a refusal leaves the table
-  pub last : (s x v : ℕ) → v < 256 ^ 4 → stateOf t .applied s s ≡ lastClock → let r = serve t (Put s x v) in (r .answer .code ≢ 0) × (stateOf (r .bytes) ≡ stateOf t)
+  pub last : (s x v : ℕ) → v < 256 ^ 4 → stateOf t .applied s s ≡ lastClock → let r = serve ours t (Put s x v) in (r .answer .code ≢ 0) × (stateOf (r .bytes) ≡ stateOf t)
   -- 9: nothing is under way; 10: a cause is missing, of the lowest site and there the greatest
-  pub nine : (s o : ℕ) → s < stateOf t .n → o < stateOf t .n → s ≢ o → (Behind W s o → ⊥) → serve t (Deliver s o) .answer .code ≡ 9
-  pub ten : (s o : ℕ) → s < stateOf t .n → o < stateOf t .n → s ≢ o → Behind W s o → (CausesApplied W s o → ⊥) → let a = serve t (Deliver s o) .answer in
+  pub nine : (s o : ℕ) → s < stateOf t .n → o < stateOf t .n → s ≢ o → (Behind W s o → ⊥) → serve ours t (Deliver s o) .answer .code ≡ 9
+  pub ten : (s o : ℕ) → s < stateOf t .n → o < stateOf t .n → s ≢ o → Behind W s o → (CausesApplied W s o → ⊥) → let a = serve ours t (Deliver s o) .answer in
       (W .applied s (a .site) < a .clock) × waiting W s o .depends (a .site) (a .clock)
       × ((o′ c′ : ℕ) → waiting W s o .depends o′ c′ → W .applied s o′ < c′ → a .site ≤ o′)
       × ((c′ : ℕ) → waiting W s o .depends (a .site) c′ → c′ ≤ a .clock)
   -- and the value has the bit of every site of which a cause is missing, and no other bit
-  pub waits : (s o : ℕ) → let a = serve t (Deliver s o) .answer in a .code ≡ 10
+  pub waits : (s o : ℕ) → let a = serve ours t (Deliver s o) .answer in a .code ≡ 10
       → ((m c : ℕ) → waiting W s o .depends m c → W .applied s m < c → bit (a .value) m ≡ true)
       × ((m : ℕ) → ((c : ℕ) → waiting W s o .depends m c → c ≤ W .applied s m) → bit (a .value) m ≡ false)
       × (a .value < 256)
@@ -103,21 +104,55 @@ pub record OfHistory (t : List ℕ) (h : History) : Type 1 where
   -- the table counts each put
   pub counted : (o x v c : ℕ) → put o x v c ∈ h → c ≤ stateOf t .applied o o
   -- after one put, a delivery to each other site is accepted, and after a drain there that answers 0 it has the put
-  pub live : (s o x v c : ℕ) → s < stateOf t .n → s ≢ o → h ≡ put o x v c ∷ [] → (o′ : ℕ) × (serve t (Deliver s o′) .answer .code ≡ 0)
-  pub drains : (s o b x v c : ℕ) → s ≢ o → h ≡ put o x v c ∷ [] → let a = serve t (Drain s b) .answer in a .code ≡ 0
-      → Lacks (after-call (stateOf t) (Drain s b) a h) s o c → ⊥
+  pub live : (s o x v c : ℕ) → s < stateOf t .n → s ≢ o → h ≡ put o x v c ∷ [] → (o′ : ℕ) × (serve ours t (Deliver s o′) .answer .code ≡ 0)
+  pub drains : (s o b x v c : ℕ) → s ≢ o → h ≡ put o x v c ∷ [] → let a = serve ours t (Drain s b) .answer in a .code ≡ 0
+      → Lacks (after-call ours (stateOf t) (Drain s b) a h) s o c → ⊥
+
+-- long and short lists after the same calls: the bytes l and w
+pub record OfBoth (l w : List ℕ) : Type 0 where
+  -- every call gives the same code, a put the same clock
+  pub codes : (c : Call) → serve short w c .answer .code ≡ serve long l c .answer .code
+  pub puts : (s x v : ℕ) → serve long l (Put s x v) .answer .code ≡ 0 → serve short w (Put s x v) .answer .clock ≡ serve long l (Put s x v) .answer .clock
+  -- a get answers the same where either is accepted, an adopt of another put is refused alike
+  pub gets : (s x : ℕ) → serve short w (Get s x) .answer .code ≡ 0 → serve short w (Get s x) .answer ≡ serve long l (Get s x) .answer
+  pub changed : (s x o c : ℕ) → serve long l (Adopt s x o c) .answer .code ≡ 15 → serve short w (Adopt s x o c) .answer ≡ serve long l (Adopt s x o c) .answer
+  -- a delivery waits at both, or at neither, and answers the same key then
+  pub waits : (s o : ℕ) → (serve long l (Deliver s o) .answer .code ≡ 10) ↔ (serve short w (Deliver s o) .answer .code ≡ 10)
+  pub ten-key : (s o : ℕ) → serve long l (Deliver s o) .answer .code ≡ 10 → serve short w (Deliver s o) .answer .key ≡ serve long l (Deliver s o) .answer .key
+  -- a drain makes as many deliveries with as many tries
+  pub drains : (s b : ℕ) → serve long l (Drain s b) .answer .code ≡ 11 → serve short w (Drain s b) .answer ≡ serve long l (Drain s b) .answer
+  -- the counts, and the value, origin and clock of an entry
+  pub counts : (s o : ℕ) → (stateOf w .applied s o ≡ stateOf l .applied s o) × (stateOf w .n ≡ stateOf l .n) × (stateOf w .k ≡ stateOf l .k)
+  pub entries : (s x : ℕ) → seen (stateOf w) s x ≡ seen (stateOf l) s x
 
 pub record Uses : Type 1 where
   -- a buffer of 0 bytes answers 1, with zeros beside it
-  pub nothing : serve [] (Get 0 0) .answer ≡ refused 1
+  pub nothing : (serve ours [] (Get 0 0) .answer ≡ refused 1) × (serve short [] (Get 0 0) .answer ≡ refused 1)
   -- every buffer
   pub buffers : (t : List ℕ) → Bytes t → OfBuffer t
   -- every sound table has a world
   pub tables : (t : List ℕ) → Bytes t → length t ≡ table .width → Sound (stateOf t) → (W : World) × OfTable t W
-  -- every list of calls after an opening
-  pub histories : (t : List ℕ) (n k : ℕ) → serve t (Open n k) .answer .code ≡ 0 →
+  -- every list of calls after an opening, on both engines
+  pub engines : (t : List ℕ) (n k : ℕ) → serve ours t (Open n k) .answer .code ≡ 0 →
       (cs : List Call) → ((s x v : ℕ) → Put s x v ∈ cs → v < 256 ^ 4) →
-      let p = play (serve t (Open n k) .bytes) [] cs in
+      let u = serve ours t (Open n k) .bytes in let l = play long u [] cs in let w = play short u [] cs in
+      OfBoth (l .0) (w .0) × ((s : ℕ) → s < stateOf (w .0) .n → Ordered (w .1) s)
+  -- open, look and the cold list with either
+  pub either : (t : List ℕ) (n k s x now T room : ℕ) →
+      (serve short t (Open n k) ≡ serve ours t (Open n k)) × (serve short t (Look s x) ≡ serve ours t (Look s x))
+      × (serve short t (Cold s now T room) ≡ serve ours t (Cold s now T room))
+  -- every list of calls with short lists alone: some run of figure 7 has their counts and entries, and while a put lacks some delivery is accepted
+  pub shorts : (t : List ℕ) (n k : ℕ) → serve short t (Open n k) .answer .code ≡ 0 →
+      (cs : List Call) → ((s x v : ℕ) → Put s x v ∈ cs → v < 256 ^ 4) →
+      let p = play short (serve short t (Open n k) .bytes) [] cs in
+      let S = stateOf (p .0) in
+      ((W : World) × Run (S .n) (S .k) (p .1) W × ((s o : ℕ) → s < S .n → o < 8 → W .applied s o ≡ S .applied s o)
+      × ((s x : ℕ) → s < S .n → x < S .k → W .store s x .answer ≡ found S s x))
+      × ((s o x v c : ℕ) → s < S .n → put o x v c ∈ p .1 → Lacks (p .1) s o c → (o′ : ℕ) × (serve short (p .0) (Deliver s o′) .answer .code ≡ 0))
+  -- every list of calls after an opening
+  pub histories : (t : List ℕ) (n k : ℕ) → serve ours t (Open n k) .answer .code ≡ 0 →
+      (cs : List Call) → ((s x v : ℕ) → Put s x v ∈ cs → v < 256 ^ 4) →
+      let p = play ours (serve ours t (Open n k) .bytes) [] cs in
       OfHistory (p .0) (p .1)
   -- no order for a put invented or repeated; before an own put, a put got, a cause of a cause; without its cause; overlooked; early
   pub none : NoOrder forged 1 × NoOrder twice 1 × NoOrder second-first 1 × NoOrder effect-first 2 × NoOrder far-effect-first 3 × NoOrder effect-alone 2

@@ -7,6 +7,7 @@ use lib.ListN.{length}
 use borrow.Author.Tests.{eq-eqb, ne-eqb}
 use Rattle.layout.specs.State.{stateOf, table}
 use Rattle.layout.specs.Ranges.{Bytes}
+use Rattle.rules.specs.Engine.{ours}
 use Rattle.rules.specs.Steps.{Numbers, cold}
 use Rattle.rules.specs.Refusals.{first}
 use Rattle.rules.specs.Calls.{Cold, step, asks, Served, serve, serve-list}
@@ -22,8 +23,8 @@ module _ (t l : List ℕ) (s hour T : ℕ) where
   pub lists-refused : (r : Refusal) → codeOf r ≡ first (asks t (Cold s hour T (length l))) → codeOf r ≢ 0 → listed (Refused r) t l ≡ serve-list t l s hour T
   unfolding serve-list
   lists-refused r e h =
-      let w = serves-refused t (Cold s hour T (length l)) r e h in
-      let n : serve t (Cold s hour T (length l)) .answer .code ≢ 0 = λ z. h (ap (λ (o : Served). o .answer .code) w ∙ z) in
+      let w = serves-refused ours t (Cold s hour T (length l)) r e h in
+      let n : serve ours t (Cold s hour T (length l)) .answer .code ≢ 0 = λ z. h (ap (λ (o : Served). o .answer .code) w ∙ z) in
       rw (ne-eqb _ 0 n) (λ i. record { answer = w i .answer; bytes = w i .bytes; list = l })
 
   module _ (z : first (asks t (Cold s hour T (length l))) ≡ 0) where
@@ -37,6 +38,6 @@ module _ (t l : List ℕ) (s hour T : ℕ) where
         → record { answer = a; bytes = t; list = l′ } ≡ serve-list t l s hour T
     unfolding serve-list step cold
     lists-step a l′ b P =
-        let w = serves-step t (Cold s hour T (length l)) a t refl b z (P .answer) refl in
-        let n : serve t (Cold s hour T (length l)) .answer .code ≡ 0 = sym (ap (λ (o : Served). o .answer .code) w) ∙ ap (λ (o : Numbers). o .code) (P .answer) in
+        let w = serves-step ours t (Cold s hour T (length l)) a t refl b z (P .answer) refl in
+        let n : serve ours t (Cold s hour T (length l)) .answer .code ≡ 0 = sym (ap (λ (o : Served). o .answer .code) w) ∙ ap (λ (o : Numbers). o .code) (P .answer) in
         rw (eq-eqb _ 0 n) (λ i. record { answer = w i .answer; bytes = w i .bytes; list = P .list i })

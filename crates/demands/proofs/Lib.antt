@@ -2,3 +2,4 @@ pub mod Serving
 pub mod Drained
 pub mod Proved
 pub mod Schedule
+pub mod Agreed

@@ -7,6 +7,7 @@ use native.Mathlib.Omega.{arith}
 use lib.ListN.{length}
 use Rattle.clock.specs.Lists.{_∈_}
 use Rattle.layout.specs.State.{table, stateOf}
+use Rattle.rules.specs.Engine.{ours}
 use Rattle.rules.specs.Steps.{opened}
 use Rattle.rules.specs.Calls.{Call, Open, Put, refusals, step, Served, serve}
 use Rattle.rules.specs.Cases.{rules}
@@ -14,11 +15,11 @@ use Rattle.laws.proofs.Ready.{open-ready}
 use Rattle.causal.specs.World.{wrote, get}
 use Rattle.causal.specs.History.{History, Cause, direct}
 use Rattle.causal.specs.Anomalies.{looked-at}
-use Rattle.causal.specs.Refines.{Causal}
+use Rattle.causal.specs.Refines.{Abstracts, Causal}
 use Rattle.causal.proofs.Tracing.{played}
 use Rattle.demands.specs.Demands.{play}
 use Rattle.demands.specs.Schedule.{schedule, by-hand, looking, adopting, adopted}
-use Rattle.laws.proofs.Fitting.{Sized, put-sized, get-sized, look-sized, adopt-sized, deliver-sized, open-fits}
+use Rattle.laws.proofs.Fitting.{ours-fits, Sized, put-sized, get-sized, look-sized, adopt-sized, deliver-sized, open-fits}
 use Rattle.laws.proofs.Serving.{asks-long, serve-step}
 use Rattle.demands.proofs.Serving.{play-is}
 use Rattle.demands.proofs.Proved.{opens, demand3}
@@ -45,26 +46,26 @@ sized = (put-sized 0 1 7 (omega arith), (deliver-sized 1 0, (get-sized 1 1, (put
 
 -- on any buffer of the table's size
 module _ (t : List ℕ) (size : length t ≡ table .width) where
-  accepted : serve t (Open 3 4) .answer .code ≡ 0
+  accepted : serve ours t (Open 3 4) .answer .code ≡ 0
   unfolding step refusals
-  accepted = ap (λ (r : Served). r .answer .code) (serve-step t (Open 3 4) (asks-long t (Open 3 4) size ∙ open-ready 3 4 .1 (record { sites = omega arith; keys = omega arith })))
+  accepted = ap (λ (r : Served). r .answer .code) (serve-step ours t (Open 3 4) (asks-long t (Open 3 4) size ∙ open-ready 3 4 .1 (record { sites = omega arith; keys = omega arith })))
 
-  on-bytes : (cs : List Call) → Each cs → play (serve t (Open 3 4) .bytes) [] cs .1 ≡ played (opened 3 4) [] cs .1
+  on-bytes : (cs : List Call) → Each cs → play ours (serve ours t (Open 3 4) .bytes) [] cs .1 ≡ played ours (opened 3 4) [] cs .1
   on-bytes cs k =
-      let o = opens t 3 4 accepted in
-      ap (λ (b : List ℕ). play b [] cs .1) (o .1) ∙ ap (λ (p : List ℕ × History). p .1) (play-is (opened 3 4) (open-fits 3 4 (o .0)) [] cs (each-put cs k) .1)
+      let o = opens ours t 3 4 accepted in
+      ap (λ (b : List ℕ). play ours b [] cs .1) (o .1) ∙ ap (λ (p : List ℕ × History). p .1) (play-is ours ours-fits (opened 3 4) (open-fits 3 4 (o .0)) [] cs (each-put cs k) .1)
 
-  pub history : play (serve t (Open 3 4) .bytes) [] schedule .1 ≡ by-hand
+  pub history : play ours (serve ours t (Open 3 4) .bytes) [] schedule .1 ≡ by-hand
   unfolding rules schedule by-hand
   history = on-bytes schedule sized
 
-  pub history-looking : play (serve t (Open 3 4) .bytes) [] looking .1 ≡ looked-at
+  pub history-looking : play ours (serve ours t (Open 3 4) .bytes) [] looking .1 ≡ looked-at
   unfolding rules looking
   history-looking = on-bytes looking (put-sized 0 1 7 (omega arith), (deliver-sized 1 0, (look-sized 1 1, (put-sized 1 2 9 (omega arith), (deliver-sized 2 1, tt)))))
 
-  pub history-adopting : play (serve t (Open 3 4) .bytes) [] adopting .1 ≡ adopted
+  pub history-adopting : play ours (serve ours t (Open 3 4) .bytes) [] adopting .1 ≡ adopted
   unfolding rules adopting adopted
   history-adopting = on-bytes adopting (put-sized 0 1 7 (omega arith), (deliver-sized 1 0, (look-sized 1 1, (adopt-sized 1 1 0 1, (put-sized 1 2 9 (omega arith), (deliver-sized 2 1, tt))))))
 
-  pub causal : let p = play (serve t (Open 3 4) .bytes) [] schedule in Causal (stateOf (p .0)) (λ c. serve (p .0) c .answer) by-hand
+  pub causal : let p = play ours (serve ours t (Open 3 4) .bytes) [] schedule in Causal ours (stateOf (p .0)) (Abstracts (stateOf (p .0))) (λ c. serve ours (p .0) c .answer) by-hand
   causal = rw history at (demand3 t 3 4 accepted schedule (each-put schedule sized))

@@ -7,6 +7,7 @@ use Rattle.clock.specs.Lists.{_∈_}
 use Rattle.layout.specs.State.{State, bytesOf}
 use Rattle.layout.specs.Ranges.{Fits}
 use Rattle.layout.proofs.TableTrips.{state-back, bytes-long}
+use Rattle.rules.specs.Engine.{Engine}
 use Rattle.rules.specs.Calls.{Call, Put, run, Served, serve}
 use Rattle.causal.specs.History.{History}
 use Rattle.causal.specs.Refines.{after-call}
@@ -14,19 +15,19 @@ use Rattle.causal.proofs.Tracing.{played}
 use Rattle.demands.specs.Demands.{play}
 use Rattle.layout.proofs.Whole.{state-bytes}
 use Rattle.laws.proofs.Serving.{served, serve-long}
-use Rattle.laws.proofs.Fitting.{run-fits}
+use Rattle.laws.proofs.Fitting.{FitsEngine, run-fits}
 
-module _ (S : State) (F : Fits S) where
-  pub serve-state : (c : Call) → serve (bytesOf S) c ≡ served (run S c)
-  serve-state c = serve-long (bytesOf S) c (bytes-long S F) (state-bytes S .1) ∙ ap (λ (R : State). served (run R c)) (state-back S F)
+module _ (E : Engine) (S : State) (F : Fits S) where
+  pub serve-state : (c : Call) → serve E (bytesOf S) c ≡ served (run E S c)
+  serve-state c = serve-long E (bytesOf S) c (bytes-long S F) (state-bytes S .1) ∙ ap (λ (R : State). served (run E R c)) (state-back S F)
 
 -- calls on bytes are calls on the state
-pub play-is : (S : State) → Fits S → (h : History) (cs : List Call) → ((s x v : ℕ) → Put s x v ∈ cs → v < 256 ^ 4)
-    → let p = played S h cs in Fits (p .0) × (play (bytesOf S) h cs ≡ (bytesOf (p .0), p .1))
-play-is S F h [] z = (F, refl)
-play-is S F h (c ∷ cs) z =
-    let r = play-is (run S c .after) (run-fits S c (λ s x v e. z s x v (inl (sym e))) F) (after-call S c (run S c .answer) h) cs (λ s x v m. z s x v (inr m)) in (
+pub play-is : (E : Engine) → FitsEngine E → (S : State) → Fits S → (h : History) (cs : List Call) → ((s x v : ℕ) → Put s x v ∈ cs → v < 256 ^ 4)
+    → let p = played E S h cs in Fits (p .0) × (play E (bytesOf S) h cs ≡ (bytesOf (p .0), p .1))
+play-is E L S F h [] z = (F, refl)
+play-is E L S F h (c ∷ cs) z =
+    let r = play-is E L (run E S c .after) (run-fits E L S c (λ s x v e. z s x v (inl (sym e))) F) (after-call E S c (run E S c .answer) h) cs (λ s x v m. z s x v (inr m)) in (
       r .0,
-      ap (λ (R : State). play (serve (bytesOf S) c .bytes) (after-call R c (serve (bytesOf S) c .answer) h) cs) (state-back S F)
-          ∙ ap (λ (r : Served). play (r .bytes) (after-call S c (r .answer) h) cs) (serve-state S F c) ∙ r .1,
+      ap (λ (R : State). play E (serve E (bytesOf S) c .bytes) (after-call E R c (serve E (bytesOf S) c .answer) h) cs) (state-back S F)
+          ∙ ap (λ (r : Served). play E (r .bytes) (after-call E S c (r .answer) h) cs) (serve-state E S F c) ∙ r .1,
     )

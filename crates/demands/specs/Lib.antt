@@ -1,2 +1,3 @@
 pub mod Demands
 pub mod Schedule
+pub mod Agreement

@@ -2,6 +2,7 @@
 ghost use mathlib.Core.Path.{_≡_};
 ghost use Prim.Native.Nat.{_≤_, _<_, _+_};
 ghost use Rattle.layout.specs.State.{stateOf};
+ghost use Rattle.rules.specs.Engine.{ours};
 ghost use Rattle.rules.specs.Drain.{skip, turn, drain};
 ghost use Rattle.rules.specs.Calls.{Drain};
 ghost use Rattle.table.specs.Answers.{numbersOf, served, Promise};
@@ -53,7 +54,7 @@ fn next_turn(n: usize, s: usize, o: usize, delivered: bool) -> Turn
 // The tries made are counted one for each delivery attempted; when one is due and the budget is spent it stops.
 fn passes(t: &mut [u8], n: usize, s: usize, budget: u16) -> Answer
     requires { ⌜ Drains (now t) n s ⌝ }
-    ensures { λ r. ⌜ (numbersOf r ≡ drain (stateOf (now (t .entry))) s budget .answer) × (stateOf (now (t .exit)) ≡ drain (stateOf (now (t .entry))) s budget .after) ⌝ }
+    ensures { λ r. ⌜ (numbersOf r ≡ drain ours (stateOf (now (t .entry))) s budget .answer) × (stateOf (now (t .exit)) ≡ drain ours (stateOf (now (t .entry))) s budget .after) ⌝ }
 {
     let start = next_turn(n, s, 0, false);
     let mut o = start.origin;

@@ -6,15 +6,17 @@ use mathlib.Core.Logic.{_≢_}
 use Prim.Native.Nat.{ℕ}
 use lib.ListN.{length}
 use borrow.Author.Tests.{eq-eqb, ne-eqb}
+use Rattle.rules.specs.Engine.{Engine, long, short}
 use Rattle.rules.specs.Steps.{Numbers}
 use Rattle.rules.specs.Refusals.{Refusals, first, cold-words}
 use Rattle.laws.proofs.Given.{Avoids}
-use Rattle.rules.specs.Calls.{Call, words, Served, Listed}
+use Rattle.laws.proofs.Sharing.{same-deliver, same-drain}
+use Rattle.rules.specs.Calls.{Call, Deliver, Drain, words, Served, Listed, serve}
 use Rattle.table.specs.declared.Answer.{Answer}
-use Rattle.table.specs.Answers.{numbersOf, served, Promise as Promised}
+use Rattle.table.specs.Answers.{numbersOf, served}
 use Rattle.cold.specs.Listing.{listed, Promise as Listing}
 use Rattle.numbers.specs.declared.Five.{Five}
-use Rattle.forkcanyon.specs.Host.{replyBytes, Hosted, left, replyOf, unsized, host, Promise}
+use Rattle.forkcanyon.specs.Host.{replyBytes, Hosted, left, replyOf, unsized, host}
 use Rattle.numbers.specs.Five.{fiveOf}
 use Rattle.forkcanyon.specs.ColdHost as cold
 use Rattle.forkcanyon.specs.Told.{Replied, behind}
@@ -29,18 +31,28 @@ behind-words [] a = refl
 behind-words ((c, true) ∷ ps) a = rw (ne-eqb c 0 (a .0))
 behind-words ((c, false) ∷ ps) a = behind-words ps (a .1)
 
-module _ (t r : List ℕ) (c : Call) where
-  pub hosts-nothing : length r ≢ replyBytes → Promise t r c (left (unsized (words c)) t r)
+module _ (E : Engine) (t r : List ℕ) (c : Call) where
+  pub hosts-nothing : length r ≢ replyBytes → left (unsized (words c)) t r ≡ host E t r c
   unfolding host
   hosts-nothing h = rw (ne-eqb (length r) replyBytes h)
 
   -- the call made, its answer told in five numbers and these written
-  pub hosts-call : {code : ℕ} {t′ r′ : List ℕ} (a : Answer) (x : Five) → length r ≡ replyBytes → Promised t c (served a t′) → fiveOf x ≡ numbersOf a → Replied code r′ (fiveOf x)
-      → Promise t r c (left code t′ r′)
+  pub hosts-call : {code : ℕ} {t′ r′ : List ℕ} (a : Answer) (x : Five) → length r ≡ replyBytes → served a t′ ≡ serve E t c → fiveOf x ≡ numbersOf a → Replied code r′ (fiveOf x)
+      → left code t′ r′ ≡ host E t r c
   unfolding host hosted
   hosts-call {t′ = t′} a x h s n w =
       rw (eq-eqb (length r) replyBytes h)
       ((λ i. left (w .returned i) t′ (w .written i)) ∙ ap (λ (y : Numbers). left (y .code) t′ (replyOf y)) n ∙ ap hosted s)
+
+-- on the same bytes both engines deliver alike
+module _ (t r : List ℕ) (s : ℕ) where
+  pub hosts-deliver : (o : ℕ) → host long t r (Deliver s o) ≡ host short t r (Deliver s o)
+  unfolding host
+  hosts-deliver o = rw (same-deliver t s o)
+
+  pub hosts-drain : (b : ℕ) → host long t r (Drain s b) ≡ host short t r (Drain s b)
+  unfolding host
+  hosts-drain b = rw (same-drain t s b)
 
 -- ## The cold list
 

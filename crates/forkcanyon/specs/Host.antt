@@ -8,9 +8,12 @@ use lib.ListN.{length}
 use Rattle.clock.specs.Map.{if_then_else_}
 use Rattle.layout.specs.Codec.{Codec, number, _then_}
 use Rattle.layout.specs.State.{byte, value, clock}
+use Rattle.rules.specs.Engine.{Engine, ours}
 use Rattle.rules.specs.Steps.{Numbers}
 use Rattle.rules.specs.Refusals.{Refusals, first}
 use Rattle.rules.specs.Calls.{Call, words, serve}
+use Rattle.table.specs.declared.Engine as table
+use Rattle.table.specs.Answers.{engineOf}
 
 -- "The reply is 12 bytes: code, key, site, zero, clock (2), two zeros, value (4)"
 abbrev pub reply : Codec (ℕ × (ℕ × (ℕ × (ℕ × (ℕ × (ℕ × ℕ))))))
@@ -39,14 +42,18 @@ abbrev pub unsized : Refusals → ℕ
 unsized words = first (words ++ ((1, true) ∷ []))
 
 -- "If the reply buffer is not 12 bytes, neither buffer is written and 1 comes back"
-unfoldable pub host : (table reply : List ℕ) → Call → Hosted
-host t r c =
-    let w = serve t c in
+unfoldable pub host : Engine → (table reply : List ℕ) → Call → Hosted
+host E t r c =
+    let w = serve E t c in
     if eqb (length r) replyBytes then left (w .answer .code) (w .bytes) (replyOf (w .answer)) else left (unsized (words c)) t r
 
 -- the promise of every call from a C program: it returns and leaves in both buffers what `host` says
 abbrev pub Promise : (table reply : List ℕ) → Call → Hosted → Type 0
-Promise t r c o = o ≡ host t r c
+Promise t r c o = o ≡ host ours t r c
+
+-- with the engine that is given
+abbrev pub PromiseBy : table.Engine → (table reply : List ℕ) → Call → Hosted → Type 0
+PromiseBy e t r c o = o ≡ host (engineOf e) t r c
 
 -- "a budget above 65,535 counts as 65,535"
 abbrev pub mostTries : ℕ

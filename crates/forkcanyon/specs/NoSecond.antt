@@ -2,6 +2,7 @@
 use mathlib.Core.Path.{_≡_, refl, sym, _∙_}
 use mathlib.Core.List.{List}
 use Prim.Native.Nat.{ℕ, min}
+use Rattle.rules.specs.Engine.{ours}
 use Rattle.rules.specs.Calls.{Call, Open, Put, Get, Deliver, Drain, Touch, Look, Adopt}
 use Rattle.forkcanyon.specs.Host.{Hosted, host, Promise, mostTries}
 
@@ -12,7 +13,7 @@ abbrev pub One : Call → Type 0
 One c = (t r : List ℕ) → (o : Hosted) × Promise t r c o
 
 no-second : (c : Call) → NoSecond c × One c
-no-second c = ((λ t r o o′ p q. p ∙ sym q), λ t r. (host t r c, refl))
+no-second c = ((λ t r o o′ p q. p ∙ sym q), λ t r. (host ours t r c, refl))
 
 pub fc-open-no-second : (sites keys : ℕ) → NoSecond (Open sites keys) × One (Open sites keys)
 fc-open-no-second n k = no-second (Open n k)

@@ -4,14 +4,16 @@ ghost use mathlib.Core.Path.{_≡_};
 ghost use Prim.Native.Nat.{min};
 ghost use lib.ListN.{length};
 ghost use Rattle.rules.specs.Calls.{Open, Put, Get, Deliver, Drain, Touch, Look, Adopt};
-ghost use Rattle.forkcanyon.specs.Host.{replyBytes, replyOf, left, Promise, mostTries};
+ghost use Rattle.forkcanyon.specs.Host.{replyBytes, replyOf, left, Promise, PromiseBy, mostTries};
 ghost use Rattle.numbers.specs.Five.{fiveOf};
 ghost use Rattle.forkcanyon.specs.Told.{Replied, behind};
 ghost use Rattle.table.specs.Answers.{codeOf};
 use numbers::Five;
+use table::Engine;
 use table::Refusal;
 
 pub mod cold_list;
+pub mod short_lists;
 
 pub struct Reply {}
 
@@ -70,14 +72,32 @@ pub extern "C" fn fc_open(sites: u64, keys: u64, table: &mut [u8], reply: &mut [
     answer(reply, numbers::numbers_of(a))
 }
 
-#[no_mangle]
-pub extern "C" fn fc_put(site: u64, key: u64, value: u32, table: &mut [u8], reply: &mut [u8]) -> u32
-    ensures { λ r. ⌜ Promise (now (table .entry)) (now (reply .entry)) (Put site key value) (left r (now (table .exit)) (now (reply .exit))) ⌝ }
+// With the engine that is given.
+fn put(site: u64, key: u64, value: u32, table: &mut [u8], reply: &mut [u8], engine: Engine) -> u32
+    ensures { λ r. ⌜ PromiseBy engine (now (table .entry)) (now (reply .entry)) (Put site key value) (left r (now (table .exit)) (now (reply .exit))) ⌝ }
 {
     if reply.len() != Reply::BYTES {
         return Reply::WRONG_SIZE;
     }
-    let a = table::put(table, site as usize, key as usize, value);
+    let a = table::put(table, site as usize, key as usize, value, engine);
+    answer(reply, numbers::numbers_of(a))
+}
+
+#[no_mangle]
+pub extern "C" fn fc_put(site: u64, key: u64, value: u32, table: &mut [u8], reply: &mut [u8]) -> u32
+    ensures { λ r. ⌜ Promise (now (table .entry)) (now (reply .entry)) (Put site key value) (left r (now (table .exit)) (now (reply .exit))) ⌝ }
+{
+    put(site, key, value, table, reply, Engine::Long)
+}
+
+// With the engine that is given.
+fn get(site: u64, key: u64, table: &mut [u8], reply: &mut [u8], engine: Engine) -> u32
+    ensures { λ r. ⌜ PromiseBy engine (now (table .entry)) (now (reply .entry)) (Get site key) (left r (now (table .exit)) (now (reply .exit))) ⌝ }
+{
+    if reply.len() != Reply::BYTES {
+        return Reply::WRONG_SIZE;
+    }
+    let a = table::get(table, site as usize, key as usize, engine);
     answer(reply, numbers::numbers_of(a))
 }
 
@@ -85,11 +105,7 @@ pub extern "C" fn fc_put(site: u64, key: u64, value: u32, table: &mut [u8], repl
 pub extern "C" fn fc_get(site: u64, key: u64, table: &mut [u8], reply: &mut [u8]) -> u32
     ensures { λ r. ⌜ Promise (now (table .entry)) (now (reply .entry)) (Get site key) (left r (now (table .exit)) (now (reply .exit))) ⌝ }
 {
-    if reply.len() != Reply::BYTES {
-        return Reply::WRONG_SIZE;
-    }
-    let a = table::get(table, site as usize, key as usize);
-    answer(reply, numbers::numbers_of(a))
+    get(site, key, table, reply, Engine::Long)
 }
 
 #[no_mangle]
@@ -131,6 +147,34 @@ pub extern "C" fn fc_drain(site: u64, budget: u64, table: &mut [u8], reply: &mut
     answer(reply, numbers::numbers_of(a))
 }
 
+// With the engine that is given.
+fn touch(
+    site: u64,
+    key: u64,
+    hour: u64,
+    toucher: u64,
+    tier: u64,
+    table: &mut [u8],
+    reply: &mut [u8],
+    engine: Engine,
+) -> u32
+    ensures { λ r. ⌜ PromiseBy engine (now (table .entry)) (now (reply .entry)) (Touch site key hour toucher tier) (left r (now (table .exit)) (now (reply .exit))) ⌝ }
+{
+    if reply.len() != Reply::BYTES {
+        return wrong_size(touch::words_refusal(hour as usize, toucher as usize, tier as usize));
+    }
+    let a = touch::touch(
+        table,
+        site as usize,
+        key as usize,
+        hour as usize,
+        toucher as usize,
+        tier as usize,
+        engine,
+    );
+    answer(reply, numbers::numbers_of(a))
+}
+
 #[no_mangle]
 pub extern "C" fn fc_touch(
     site: u64,
@@ -143,18 +187,7 @@ pub extern "C" fn fc_touch(
 ) -> u32
     ensures { λ r. ⌜ Promise (now (table .entry)) (now (reply .entry)) (Touch site key hour toucher tier) (left r (now (table .exit)) (now (reply .exit))) ⌝ }
 {
-    if reply.len() != Reply::BYTES {
-        return wrong_size(touch::words_refusal(hour as usize, toucher as usize, tier as usize));
-    }
-    let a = touch::touch(
-        table,
-        site as usize,
-        key as usize,
-        hour as usize,
-        toucher as usize,
-        tier as usize,
-    );
-    answer(reply, numbers::numbers_of(a))
+    touch(site, key, hour, toucher, tier, table, reply, Engine::Long)
 }
 
 #[no_mangle]
@@ -165,6 +198,32 @@ pub extern "C" fn fc_look(site: u64, key: u64, table: &mut [u8], reply: &mut [u8
         return Reply::WRONG_SIZE;
     }
     let a = table::look::look(table, site as usize, key as usize);
+    answer(reply, numbers::numbers_of(a))
+}
+
+// With the engine that is given.
+fn adopt(
+    site: u64,
+    key: u64,
+    origin: u64,
+    clock: u64,
+    table: &mut [u8],
+    reply: &mut [u8],
+    engine: Engine,
+) -> u32
+    ensures { λ r. ⌜ PromiseBy engine (now (table .entry)) (now (reply .entry)) (Adopt site key origin clock) (left r (now (table .exit)) (now (reply .exit))) ⌝ }
+{
+    if reply.len() != Reply::BYTES {
+        return Reply::WRONG_SIZE;
+    }
+    let a = table::look::adopt(
+        table,
+        site as usize,
+        key as usize,
+        origin as usize,
+        clock as usize,
+        engine,
+    );
     answer(reply, numbers::numbers_of(a))
 }
 
@@ -179,15 +238,5 @@ pub extern "C" fn fc_adopt(
 ) -> u32
     ensures { λ r. ⌜ Promise (now (table .entry)) (now (reply .entry)) (Adopt site key origin clock) (left r (now (table .exit)) (now (reply .exit))) ⌝ }
 {
-    if reply.len() != Reply::BYTES {
-        return Reply::WRONG_SIZE;
-    }
-    let a = table::look::adopt(
-        table,
-        site as usize,
-        key as usize,
-        origin as usize,
-        clock as usize,
-    );
-    answer(reply, numbers::numbers_of(a))
+    adopt(site, key, origin, clock, table, reply, Engine::Long)
 }

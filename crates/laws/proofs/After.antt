@@ -6,6 +6,7 @@ use mathlib.Core.Logic.{⊎-elim, _≢_}
 use Prim.Native.Nat.{ℕ}
 use Rattle.layout.specs.State.{State}
 use Rattle.rules.specs.Sound.{Sound}
+use Rattle.rules.specs.Engine.{Engine}
 use Rattle.rules.specs.Steps.{Outcome, put, get, look, deliver, touch, cold}
 use Rattle.rules.specs.Refusals.{first}
 use Rattle.rules.specs.Drain.{turn, drained, drain}
@@ -18,53 +19,53 @@ use Rattle.laws.proofs.Touching.{Apart, learn-apart, touch-sound}
 use Rattle.laws.proofs.Draining.{by-deliveries}
 
 -- what holds of the table and of the one after a step
-pub after-run : (S : State) (c : Call) (P : State → Type 0) → (first (refusals S c) ≡ 0 → P (step S c .after)) → P S → P (run S c .after)
-after-run S c P f p =
+pub after-run : (E : Engine) (S : State) (c : Call) (P : State → Type 0) → (first (refusals S c) ≡ 0 → P (step E S c .after)) → P S → P (run E S c .after)
+after-run E S c P f p =
     ⊎-elim
     (λ q. subst (λ (r : Outcome). P (r .after)) (sym (q .1)) (f (q .0)))
     (λ q. subst (λ (r : Outcome). P (r .after)) (sym (q .1)) p)
-    (run-cases S c)
+    (run-cases E S c)
 
 -- ## Soundness
 
-pub drained-sound : (S : State) (s b : ℕ) → Sound S → Sound (drained S s b .after)
+pub drained-sound : (E : Engine) (S : State) (s b : ℕ) → Sound S → Sound (drained E S s b .after)
 unfolding drained
-drained-sound S s b =
-    by-deliveries s (λ b S T ds t r. Sound S → Sound (r .after))
+drained-sound E S s b =
+    by-deliveries E s (λ b S T ds t r. Sound S → Sound (r .after))
     (λ b S ds t D. D)
     (λ S o d ds t D. D)
-    (λ b S o d ds t r R f D. f (deliver-sound S s o R))
+    (λ b S o d ds t r R f D. f (deliver-sound E S s o R))
     (λ b S o d ds t r z f D. f D)
     b S (turn (S .n) s 0 false) [] 0
 
-pub step-sound : (S : State) (c : Call) → first (refusals S c) ≡ 0 → Sound (step S c .after)
+pub step-sound : (E : Engine) (S : State) (c : Call) → first (refusals S c) ≡ 0 → Sound (step E S c .after)
 unfolding step look cold drain refusals
-step-sound S (Open n k) z = open-sound n k (open-ready n k .0 z)
-step-sound S (Put s x v) z = put-sound S s x v (put-ready S s x .0 z)
-step-sound S (Get s x) z = get-sound S s x (get-ready S s x .0 z .sound)
-step-sound S (Deliver s o) z = deliver-sound S s o (deliver-ready S s o .0 z)
-step-sound S (Drain s b) z = drained-sound S s b (drain-ready S s .0 z .sound)
-step-sound S (Cold s now T m) z = cold-ready S s now T m z .sound
-step-sound S (Touch s x now u r) z = touch-sound S s x now u r (touch-ready S s x now u r z .put)
-step-sound S (Look s x) z = get-ready S s x .0 z .sound
-step-sound S (Adopt s x o c) z = get-sound S s x (adopt-ready S s x o c .0 z .get .sound)
+step-sound E S (Open n k) z = open-sound n k (open-ready n k .0 z)
+step-sound E S (Put s x v) z = put-sound E S s x v (put-ready S s x .0 z)
+step-sound E S (Get s x) z = get-sound E S s x (get-ready S s x .0 z .sound)
+step-sound E S (Deliver s o) z = deliver-sound E S s o (deliver-ready S s o .0 z)
+step-sound E S (Drain s b) z = drained-sound E S s b (drain-ready S s .0 z .sound)
+step-sound E S (Cold s now T m) z = cold-ready S s now T m z .sound
+step-sound E S (Touch s x now u r) z = touch-sound E S s x now u r (touch-ready S s x now u r z .put)
+step-sound E S (Look s x) z = get-ready S s x .0 z .sound
+step-sound E S (Adopt s x o c) z = get-sound E S s x (adopt-ready S s x o c .0 z .get .sound)
 
 pub accepted-sound : AcceptedSound
-accepted-sound S c z =
-    let r = run-accepted S c z in subst (λ (x : Outcome). Sound (x .after)) (sym (r .1)) (step-sound S c (r .0))
+accepted-sound E S c z =
+    let r = run-accepted E S c z in subst (λ (x : Outcome). Sound (x .after)) (sym (r .1)) (step-sound E S c (r .0))
 
 pub keeps-sound : KeepsSound
-keeps-sound S c = after-run S c Sound (step-sound S c)
+keeps-sound E S c = after-run E S c Sound (step-sound E S c)
 
 -- ## The counts of sites and keys
 
 abbrev pub SameCounts : State → State → Type 0
 SameCounts S T = (T .n ≡ S .n) × (T .k ≡ S .k)
 
-drained-counts : (S : State) (s b : ℕ) → SameCounts S (drained S s b .after)
+drained-counts : (E : Engine) (S : State) (s b : ℕ) → SameCounts S (drained E S s b .after)
 unfolding drained deliver
-drained-counts S₀ s b =
-    by-deliveries s (λ b S T ds t r. SameCounts S₀ S → SameCounts S₀ (r .after))
+drained-counts E S₀ s b =
+    by-deliveries E s (λ b S T ds t r. SameCounts S₀ S → SameCounts S₀ (r .after))
     (λ b S ds t D. D)
     (λ S o d ds t D. D)
     (λ b S o d ds t r R f D. f D)
@@ -74,18 +75,18 @@ drained-counts S₀ s b =
 apart-counts : (S T : State) → Apart S T → SameCounts S T
 apart-counts S T p = (ap (λ (R : State). R .n) (p .1), ap (λ (R : State). R .k) (p .1))
 
-step-counts : (S : State) (c : Call) → ((n k : ℕ) → c ≢ Open n k) → SameCounts S (step S c .after)
+step-counts : (E : Engine) (S : State) (c : Call) → ((n k : ℕ) → c ≢ Open n k) → SameCounts S (step E S c .after)
 unfolding step put get look deliver drain touch cold
-step-counts S (Open n k) h = absurd (h n k refl)
-step-counts S (Put s x v) h = (refl, refl)
-step-counts S (Get s x) h = apart-counts S _ (learn-apart S s x)
-step-counts S (Deliver s o) h = (refl, refl)
-step-counts S (Drain s b) h = drained-counts S s b
-step-counts S (Cold s now T m) h = (refl, refl)
-step-counts S (Touch s x now u r) h = apart-counts S _ (learn-apart S s x)
-step-counts S (Look s x) h = (refl, refl)
-step-counts S (Adopt s x o c) h = apart-counts S _ (learn-apart S s x)
+step-counts E S (Open n k) h = absurd (h n k refl)
+step-counts E S (Put s x v) h = (refl, refl)
+step-counts E S (Get s x) h = apart-counts S _ (learn-apart E S s x)
+step-counts E S (Deliver s o) h = (refl, refl)
+step-counts E S (Drain s b) h = drained-counts E S s b
+step-counts E S (Cold s now T m) h = (refl, refl)
+step-counts E S (Touch s x now u r) h = apart-counts S _ (learn-apart E S s x)
+step-counts E S (Look s x) h = (refl, refl)
+step-counts E S (Adopt s x o c) h = apart-counts S _ (learn-apart E S s x)
 
 -- only open changes them
-pub counts-kept : (S : State) (c : Call) → ((n k : ℕ) → c ≢ Open n k) → SameCounts S (run S c .after)
-counts-kept S c h = after-run S c (SameCounts S) (λ z. step-counts S c h) (refl, refl)
+pub counts-kept : (E : Engine) (S : State) (c : Call) → ((n k : ℕ) → c ≢ Open n k) → SameCounts S (run E S c .after)
+counts-kept E S c h = after-run E S c (SameCounts S) (λ z. step-counts E S c h) (refl, refl)

@@ -10,6 +10,7 @@ use lib.ListN.{length, length-append}
 use borrow.Author.Tests.{eqb-true, eqb-false, eq-eqb, ne-eqb}
 use Rattle.clock.proofs.Maps.{eq?}
 use Rattle.layout.specs.State.{State}
+use Rattle.rules.specs.Engine.{Engine}
 use Rattle.rules.specs.Steps.{Numbers, Outcome, deliver}
 use Rattle.rules.specs.Drain.{try, Turn, end, due, turn, Drained, passes, drained, drain}
 use Rattle.rules.specs.Calls.{Deliver, refusals, beside, step, run}
@@ -19,14 +20,14 @@ use Rattle.laws.proofs.Given.{run-accepted}
 
 -- ## One try
 
-pub try-runs : (S : State) (s o : ℕ) → try S s o ≡ run S (Deliver s o)
+pub try-runs : (E : Engine) (S : State) (s o : ℕ) → try E S s o ≡ run E S (Deliver s o)
 unfolding try run refusals beside step
-try-runs S s o = refl
+try-runs E S s o = refl
 
 -- an accepted try is a delivery of which no condition holds
-pub took : (S : State) (s o : ℕ) → try S s o .answer .code ≡ 0 → DeliverReady S s o × (try S s o ≡ deliver S s o)
+pub took : (E : Engine) (S : State) (s o : ℕ) → try E S s o .answer .code ≡ 0 → DeliverReady S s o × (try E S s o ≡ deliver E S s o)
 unfolding try run refusals beside step
-took S s o z = let r = run-accepted S (Deliver s o) z in (deliver-ready S s o .0 (r .0), r .1)
+took E S s o z = let r = run-accepted E S (Deliver s o) z in (deliver-ready S s o .0 (r .0), r .1)
 
 -- ## Induction over the tries
 
@@ -36,68 +37,68 @@ ended S ds t = record { code = 0; made = ds; tries = t; after = S }
 abbrev pub stopped : State → List Numbers → ℕ → Drained
 stopped S ds t = record { code = 11; made = ds; tries = t; after = S }
 
-pub passes-end : (b : ℕ) (S : State) (s : ℕ) (ds : List Numbers) (t : ℕ) → passes b S s end ds t ≡ ended S ds t
+pub passes-end : (E : Engine) (b : ℕ) (S : State) (s : ℕ) (ds : List Numbers) (t : ℕ) → passes E b S s end ds t ≡ ended S ds t
 unfolding passes
-passes-end zero S s ds t = refl
-passes-end (suc b) S s ds t = refl
+passes-end E zero S s ds t = refl
+passes-end E (suc b) S s ds t = refl
 
-pub passes-stop : (S : State) (s o : ℕ) (d : Bool) (ds : List Numbers) (t : ℕ) → passes 0 S s (due o d) ds t ≡ stopped S ds t
+pub passes-stop : (E : Engine) (S : State) (s o : ℕ) (d : Bool) (ds : List Numbers) (t : ℕ) → passes E 0 S s (due o d) ds t ≡ stopped S ds t
 unfolding passes
-passes-stop S s o d ds t = refl
+passes-stop E S s o d ds t = refl
 
-module _ (b : ℕ) (S : State) (s o : ℕ) (d : Bool) (ds : List Numbers) (t : ℕ) where
+module _ (E : Engine) (b : ℕ) (S : State) (s o : ℕ) (d : Bool) (ds : List Numbers) (t : ℕ) where
   -- what follows a try that was accepted or not
   abbrev tried : Bool → Drained
   tried x =
       elim x [
-        | true ↦ passes b (try S s o .after) s (due o true) (try S s o .answer ∷ ds) (suc t)
-        | false ↦ passes b S s (turn (S .n) s (suc o) d) ds (suc t)
+        | true ↦ passes E b (try E S s o .after) s (due o true) (try E S s o .answer ∷ ds) (suc t)
+        | false ↦ passes E b S s (turn (S .n) s (suc o) d) ds (suc t)
       ]
 
-  pub passes-accepted : try S s o .answer .code ≡ 0
-      → passes (suc b) S s (due o d) ds t ≡ passes b (try S s o .after) s (due o true) (try S s o .answer ∷ ds) (suc t)
+  pub passes-accepted : try E S s o .answer .code ≡ 0
+      → passes E (suc b) S s (due o d) ds t ≡ passes E b (try E S s o .after) s (due o true) (try E S s o .answer ∷ ds) (suc t)
   unfolding passes
-  passes-accepted h = ap tried (eq-eqb (try S s o .answer .code) 0 h)
+  passes-accepted h = ap tried (eq-eqb (try E S s o .answer .code) 0 h)
 
-  pub passes-refused : try S s o .answer .code ≢ 0 → passes (suc b) S s (due o d) ds t ≡ passes b S s (turn (S .n) s (suc o) d) ds (suc t)
+  pub passes-refused : try E S s o .answer .code ≢ 0 → passes E (suc b) S s (due o d) ds t ≡ passes E b S s (turn (S .n) s (suc o) d) ds (suc t)
   unfolding passes
-  passes-refused h = ap tried (ne-eqb (try S s o .answer .code) 0 h)
+  passes-refused h = ap tried (ne-eqb (try E S s o .answer .code) 0 h)
 
-module _ (s : ℕ) (P : ℕ → State → Turn → List Numbers → ℕ → Drained → Type 0)
+module _ (E : Engine) (s : ℕ) (P : ℕ → State → Turn → List Numbers → ℕ → Drained → Type 0)
     (ends : (b : ℕ) (S : State) (ds : List Numbers) (t : ℕ) → P b S end ds t (ended S ds t))
     (stops : (S : State) (o : ℕ) (d : Bool) (ds : List Numbers) (t : ℕ) → P 0 S (due o d) ds t (stopped S ds t))
-    (accepts : (b : ℕ) (S : State) (o : ℕ) (d : Bool) (ds : List Numbers) (t : ℕ) (r : Drained) → try S s o .answer .code ≡ 0
-    → P b (try S s o .after) (due o true) (try S s o .answer ∷ ds) (suc t) r → P (suc b) S (due o d) ds t r)
-    (refuses : (b : ℕ) (S : State) (o : ℕ) (d : Bool) (ds : List Numbers) (t : ℕ) (r : Drained) → try S s o .answer .code ≢ 0
+    (accepts : (b : ℕ) (S : State) (o : ℕ) (d : Bool) (ds : List Numbers) (t : ℕ) (r : Drained) → try E S s o .answer .code ≡ 0
+    → P b (try E S s o .after) (due o true) (try E S s o .answer ∷ ds) (suc t) r → P (suc b) S (due o d) ds t r)
+    (refuses : (b : ℕ) (S : State) (o : ℕ) (d : Bool) (ds : List Numbers) (t : ℕ) (r : Drained) → try E S s o .answer .code ≢ 0
     → P b S (turn (S .n) s (suc o) d) ds (suc t) r → P (suc b) S (due o d) ds t r) where
-  pub by-tries : (b : ℕ) (S : State) (T : Turn) (ds : List Numbers) (t : ℕ) → P b S T ds t (passes b S s T ds t)
+  pub by-tries : (b : ℕ) (S : State) (T : Turn) (ds : List Numbers) (t : ℕ) → P b S T ds t (passes E b S s T ds t)
   unfolding passes
   by-tries zero S end ds t = ends 0 S ds t
   by-tries (suc b) S end ds t = ends (suc b) S ds t
   by-tries zero S (due o d) ds t = stops S o d ds t
   by-tries (suc b) S (due o d) ds t =
-      go (eqb (try S s o .answer .code) 0) refl (by-tries b (try S s o .after) (due o true) (try S s o .answer ∷ ds) (suc t))
+      go (eqb (try E S s o .answer .code) 0) refl (by-tries b (try E S s o .after) (due o true) (try E S s o .answer ∷ ds) (suc t))
       (by-tries b S (turn (S .n) s (suc o) d) ds (suc t))
     where
-      go : (x : Bool) → eqb (try S s o .answer .code) 0 ≡ x
-          → P b (try S s o .after) (due o true) (try S s o .answer ∷ ds) (suc t) (tried b S s o d ds t true)
-          → P b S (turn (S .n) s (suc o) d) ds (suc t) (tried b S s o d ds t false) → P (suc b) S (due o d) ds t (tried b S s o d ds t x)
+      go : (x : Bool) → eqb (try E S s o .answer .code) 0 ≡ x
+          → P b (try E S s o .after) (due o true) (try E S s o .answer ∷ ds) (suc t) (tried E b S s o d ds t true)
+          → P b S (turn (S .n) s (suc o) d) ds (suc t) (tried E b S s o d ds t false) → P (suc b) S (due o d) ds t (tried E b S s o d ds t x)
       go true e p q = accepts b S o d ds t _ (eqb-true _ 0 e) p
       go false e p q = refuses b S o d ds t _ (eqb-false _ 0 e) q
 
 -- the same, where the deliveries are what counts
-module _ (s : ℕ) (P : ℕ → State → Turn → List Numbers → ℕ → Drained → Type 0)
+module _ (E : Engine) (s : ℕ) (P : ℕ → State → Turn → List Numbers → ℕ → Drained → Type 0)
     (ends : (b : ℕ) (S : State) (ds : List Numbers) (t : ℕ) → P b S end ds t (ended S ds t))
     (stops : (S : State) (o : ℕ) (d : Bool) (ds : List Numbers) (t : ℕ) → P 0 S (due o d) ds t (stopped S ds t))
     (accepts : (b : ℕ) (S : State) (o : ℕ) (d : Bool) (ds : List Numbers) (t : ℕ) (r : Drained) → DeliverReady S s o
-    → P b (deliver S s o .after) (due o true) (deliver S s o .answer ∷ ds) (suc t) r → P (suc b) S (due o d) ds t r)
-    (refuses : (b : ℕ) (S : State) (o : ℕ) (d : Bool) (ds : List Numbers) (t : ℕ) (r : Drained) → try S s o .answer .code ≢ 0
+    → P b (deliver E S s o .after) (due o true) (deliver E S s o .answer ∷ ds) (suc t) r → P (suc b) S (due o d) ds t r)
+    (refuses : (b : ℕ) (S : State) (o : ℕ) (d : Bool) (ds : List Numbers) (t : ℕ) (r : Drained) → try E S s o .answer .code ≢ 0
     → P b S (turn (S .n) s (suc o) d) ds (suc t) r → P (suc b) S (due o d) ds t r) where
-  pub by-deliveries : (b : ℕ) (S : State) (T : Turn) (ds : List Numbers) (t : ℕ) → P b S T ds t (passes b S s T ds t)
+  pub by-deliveries : (b : ℕ) (S : State) (T : Turn) (ds : List Numbers) (t : ℕ) → P b S T ds t (passes E b S s T ds t)
   by-deliveries =
-      by-tries s P ends stops
+      by-tries E s P ends stops
       (λ b S o d ds t r z p.
-      let k = took S s o z in
+      let k = took E S s o z in
       accepts b S o d ds t r (k .0) (subst (λ (x : Outcome). P b (x .after) (due o true) (x .answer ∷ ds) (suc t) r) (k .1) p))
       refuses
 
@@ -124,30 +125,30 @@ counts-next a ds b t r h p =
       made = p .made ∙ sym (append-assoc (p .more) a ds);
     }
 
-pub passes-counts : (s b : ℕ) (S : State) (T : Turn) (ds : List Numbers) (t : ℕ) → Counts b ds t (passes b S s T ds t)
-passes-counts s =
-    by-tries s (λ b S T ds t r. Counts b ds t r)
+pub passes-counts : (E : Engine) (s b : ℕ) (S : State) (T : Turn) (ds : List Numbers) (t : ℕ) → Counts b ds t (passes E b S s T ds t)
+passes-counts E s =
+    by-tries E s (λ b S T ds t r. Counts b ds t r)
     (λ b S ds t. record { since = omega arith; within = omega arith; code = inl refl; tried = omega arith; more = []; made = refl })
     (λ S o d ds t. record { since = omega arith; within = omega arith; code = inr (refl, omega arith); tried = omega arith; more = []; made = refl })
-    (λ b S o d ds t r z. counts-next (try S s o .answer ∷ []) ds b t r (omega arith))
+    (λ b S o d ds t r z. counts-next (try E S s o .answer ∷ []) ds b t r (omega arith))
     (λ b S o d ds t r z. counts-next [] ds b t r (omega arith))
 
-module _ (S : State) (s b : ℕ) where
-  counts : Counts b [] 0 (drained S s b)
+module _ (E : Engine) (S : State) (s b : ℕ) where
+  counts : Counts b [] 0 (drained E S s b)
   unfolding drained
-  counts = passes-counts s b S (turn (S .n) s 0 false) [] 0
+  counts = passes-counts E s b S (turn (S .n) s 0 false) [] 0
 
-  pub drained-code : (drained S s b .code ≡ 0) ⊎ ((drained S s b .code ≡ 11) × (drained S s b .tries ≡ b))
+  pub drained-code : (drained E S s b .code ≡ 0) ⊎ ((drained E S s b .code ≡ 11) × (drained E S s b .tries ≡ b))
   drained-code = ⊎-elim inl (λ q. inr (q .0, omega (arith, q .1))) (counts .code)
 
 pub tries-within : TriesWithin
 unfolding drain
-tries-within S s b = (omega (arith, counts S s b .within), λ z. ⊎-elim (λ q. absurd (omega (arith, q))) (λ q. q .1) (drained-code S s b))
+tries-within E S s b = (omega (arith, counts E S s b .within), λ z. ⊎-elim (λ q. absurd (omega (arith, q))) (λ q. q .1) (drained-code E S s b))
 
 pub drain-delivers : DrainDelivers
 unfolding drained drain try run refusals beside step
-drain-delivers S₀ s b = (
-  by-tries s (λ b S T ds t r. Delivers s S₀ ds S → Delivers s S₀ (r .made) (r .after))
+drain-delivers E S₀ s b = (
+  by-tries E s (λ b S T ds t r. Delivers E s S₀ ds S → Delivers E s S₀ (r .made) (r .after))
       (λ b S ds t D. D)
       (λ S o d ds t D. D)
       (λ b S o d ds t r z f D. f (one-more D o z))
@@ -170,52 +171,52 @@ longer-next b b′ t r r′ L =
     record { same = L .same; later = λ z h. omega (arith, L .later z (omega arith)); more = L .more; prefix = L .prefix }
 
 -- a try that is due is made
-passes-some : (b : ℕ) (S : State) (s o : ℕ) (d : Bool) (ds : List Numbers) (t : ℕ) → t < passes (suc b) S s (due o d) ds t .tries
-passes-some b S s o d ds t =
+passes-some : (E : Engine) (b : ℕ) (S : State) (s o : ℕ) (d : Bool) (ds : List Numbers) (t : ℕ) → t < passes E (suc b) S s (due o d) ds t .tries
+passes-some E b S s o d ds t =
     ⊎-elim
-    (λ z. rw (passes-accepted b S s o d ds t z) (passes-counts s b _ _ _ (suc t) .since))
-    (λ z. rw (passes-refused b S s o d ds t z) (passes-counts s b _ _ _ (suc t) .since))
-    (eq? (try S s o .answer .code) 0)
+    (λ z. rw (passes-accepted E b S s o d ds t z) (passes-counts E s b _ _ _ (suc t) .since))
+    (λ z. rw (passes-refused E b S s o d ds t z) (passes-counts E s b _ _ _ (suc t) .since))
+    (eq? (try E S s o .answer .code) 0)
 
-longer : (s b : ℕ) (S : State) (T : Turn) (ds : List Numbers) (t b′ : ℕ) → b ≤ b′ → Longer b b′ t (passes b S s T ds t) (passes b′ S s T ds t)
-longer s = by-tries s P at-end at-stop accepted refused
+longer : (E : Engine) (s b : ℕ) (S : State) (T : Turn) (ds : List Numbers) (t b′ : ℕ) → b ≤ b′ → Longer b b′ t (passes E b S s T ds t) (passes E b′ S s T ds t)
+longer E s = by-tries E s P at-end at-stop accepted refused
   where
     P : ℕ → State → Turn → List Numbers → ℕ → Drained → Type 0
-    P b S T ds t r = (b′ : ℕ) → b ≤ b′ → Longer b b′ t r (passes b′ S s T ds t)
+    P b S T ds t r = (b′ : ℕ) → b ≤ b′ → Longer b b′ t r (passes E b′ S s T ds t)
 
     at-end : (b : ℕ) (S : State) (ds : List Numbers) (t : ℕ) → P b S end ds t (ended S ds t)
-    at-end b S ds t b′ h = rw (passes-end b′ S s ds t) (record { same = λ z. refl; later = λ z. absurd (omega arith); more = []; prefix = refl })
+    at-end b S ds t b′ h = rw (passes-end E b′ S s ds t) (record { same = λ z. refl; later = λ z. absurd (omega arith); more = []; prefix = refl })
 
     at-stop : (S : State) (o : ℕ) (d : Bool) (ds : List Numbers) (t : ℕ) → P 0 S (due o d) ds t (stopped S ds t)
     at-stop S o d ds t zero h =
-        let p = passes-counts s 0 S (due o d) ds t in
+        let p = passes-counts E s 0 S (due o d) ds t in
         record { same = λ z. absurd (omega arith); later = λ z l. absurd (omega arith); more = p .more; prefix = p .made }
     at-stop S o d ds t (suc b) h =
-        let p = passes-counts s (suc b) S (due o d) ds t in
-        record { same = λ z. absurd (omega arith); later = λ z l. omega (arith, passes-some b S s o d ds t); more = p .more; prefix = p .made }
+        let p = passes-counts E s (suc b) S (due o d) ds t in
+        record { same = λ z. absurd (omega arith); later = λ z l. omega (arith, passes-some E b S s o d ds t); more = p .more; prefix = p .made }
 
-    accepted : (b : ℕ) (S : State) (o : ℕ) (d : Bool) (ds : List Numbers) (t : ℕ) (r : Drained) → try S s o .answer .code ≡ 0
-        → P b (try S s o .after) (due o true) (try S s o .answer ∷ ds) (suc t) r → P (suc b) S (due o d) ds t r
+    accepted : (b : ℕ) (S : State) (o : ℕ) (d : Bool) (ds : List Numbers) (t : ℕ) (r : Drained) → try E S s o .answer .code ≡ 0
+        → P b (try E S s o .after) (due o true) (try E S s o .answer ∷ ds) (suc t) r → P (suc b) S (due o d) ds t r
     accepted b S o d ds t r z f zero h = absurd (omega arith)
     accepted b S o d ds t r z f (suc b′) h =
-        subst (Longer (suc b) (suc b′) t r) (sym (passes-accepted b′ S s o d ds t z)) (longer-next b b′ t r _ (f b′ (omega arith)))
+        subst (Longer (suc b) (suc b′) t r) (sym (passes-accepted E b′ S s o d ds t z)) (longer-next b b′ t r _ (f b′ (omega arith)))
 
-    refused : (b : ℕ) (S : State) (o : ℕ) (d : Bool) (ds : List Numbers) (t : ℕ) (r : Drained) → try S s o .answer .code ≢ 0
+    refused : (b : ℕ) (S : State) (o : ℕ) (d : Bool) (ds : List Numbers) (t : ℕ) (r : Drained) → try E S s o .answer .code ≢ 0
         → P b S (turn (S .n) s (suc o) d) ds (suc t) r → P (suc b) S (due o d) ds t r
     refused b S o d ds t r z f zero h = absurd (omega arith)
     refused b S o d ds t r z f (suc b′) h =
-        subst (Longer (suc b) (suc b′) t r) (sym (passes-refused b′ S s o d ds t z)) (longer-next b b′ t r _ (f b′ (omega arith)))
+        subst (Longer (suc b) (suc b′) t r) (sym (passes-refused E b′ S s o d ds t z)) (longer-next b b′ t r _ (f b′ (omega arith)))
 
 pub drain-prefix : DrainPrefix
 unfolding drained
-drain-prefix S s b b′ h = let L = longer s b S (turn (S .n) s 0 false) [] 0 b′ h in (L .more, L .prefix)
+drain-prefix E S s b b′ h = let L = longer E s b S (turn (S .n) s 0 false) [] 0 b′ h in (L .more, L .prefix)
 
 -- a budget that was enough, and a larger one
-pub drained-same : (S : State) (s b b′ : ℕ) → b ≤ b′ → drained S s b .code ≡ 0 → drained S s b′ ≡ drained S s b
+pub drained-same : (E : Engine) (S : State) (s b b′ : ℕ) → b ≤ b′ → drained E S s b .code ≡ 0 → drained E S s b′ ≡ drained E S s b
 unfolding drained
-drained-same S s b b′ h = longer s b S (turn (S .n) s 0 false) [] 0 b′ h .same
+drained-same E S s b b′ h = longer E s b S (turn (S .n) s 0 false) [] 0 b′ h .same
 
 -- a budget that was not, and a larger one
-pub drained-later : (S : State) (s b b′ : ℕ) → b < b′ → drained S s b .code ≡ 11 → b < drained S s b′ .tries
+pub drained-later : (E : Engine) (S : State) (s b b′ : ℕ) → b < b′ → drained E S s b .code ≡ 11 → b < drained E S s b′ .tries
 unfolding drained
-drained-later S s b b′ h z = omega (arith, longer s b S (turn (S .n) s 0 false) [] 0 b′ (omega arith) .later z h)
+drained-later E S s b b′ h z = omega (arith, longer E s b S (turn (S .n) s 0 false) [] 0 b′ (omega arith) .later z h)

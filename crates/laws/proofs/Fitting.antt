@@ -2,8 +2,8 @@
 use mathlib.Core.Path.{_≡_, refl, sym, ap, subst, _∙_}
 use mathlib.Core.Bool.{false}
 use mathlib.Core.List.{List, []}
-use mathlib.Core.Logic.{⊎-elim}
-use Prim.Native.Nat.{ℕ, zero, suc, _^_, _≤_, _<_}
+use mathlib.Core.Logic.{⊎-elim, _≢_}
+use Prim.Native.Nat.{ℕ, _^_, _<_}
 use native.Mathlib.Omega.{arith}
 use lib.Dec.{eqb}
 use borrow.Author.Tests.{eqb-false}
@@ -18,6 +18,7 @@ use Rattle.layout.specs.Ranges.{Bytes, Rows, FitsVector, FitsFields, Fits}
 use Rattle.layout.proofs.TableTrips.{state-fits}
 use Rattle.layout.proofs.Zeros.{all-zero}
 use Rattle.rules.specs.Sound.{place, Sound}
+use Rattle.rules.specs.Engine.{Engine, taken-on, long, short, ours}
 use Rattle.rules.specs.Steps as r
 use Rattle.rules.specs.Touch.{touchOf, keepsHour, touched}
 use Rattle.rules.specs.Steps.{opened, learn}
@@ -50,6 +51,33 @@ note-fits v o c F h l = rows-set 8 clock (λ c. c < 256 ^ 2) v F o _ h (omega (a
 
 zeros-fit : FitsVector zeros
 zeros-fit = ((λ j h. omega arith), λ j h. refl)
+
+-- ## Engines
+
+-- what an engine makes of vectors that fit fits
+pub record FitsEngine (E : Engine) : Type 0 where
+  pub learned : (d : Vector) (e : Entry) → FitsVector d → FitsFields (ofEntry e) → e .origin < 8 → FitsVector (E .learned d e)
+  pub sent : (d : Vector) (e : Entry) → FitsVector d → FitsFields (ofEntry e) → e .origin < 8 → FitsVector (E .sent d e)
+  pub left : (v : Vector) (s c : ℕ) → FitsVector v → s < 8 → c < 256 ^ 2 → FitsVector (E .left v s c)
+  pub own : (v : Vector) → FitsVector v → FitsVector (E .own v)
+
+taken-on-fits : (d : Vector) (e : Entry) → FitsVector d → FitsFields (ofEntry e) → e .origin < 8 → FitsVector (taken-on d e)
+taken-on-fits d e F G h = note-fits (join d (e .depends)) (e .origin) (e .clock) (join-fits d (e .depends) F (G .1 .1 .1 .1)) h (G .1 .1 .1 .0)
+
+pub long-fits : FitsEngine long
+long-fits = record { learned = taken-on-fits; sent = λ d e F G h. F; left = note-fits; own = λ v F. zeros-fit }
+
+pub ours-fits : FitsEngine ours
+ours-fits = long-fits
+
+pub short-fits : FitsEngine short
+short-fits =
+    record {
+      learned = λ d e F G h. note-fits d (e .origin) (e .clock) F h (G .1 .1 .1 .0);
+      sent = λ d e F G h. F;
+      left = λ v s c F. note-fits zeros s c zeros-fit;
+      own = λ v F. zeros-fit;
+    }
 
 -- ## The parts of a state that fits
 
@@ -101,20 +129,22 @@ open-fits n k R =
     let F = zero-fits (replicate (table .width) 0) (length-replicate {A = ℕ} (table .width) 0) (λ i. ap (λ (g : ℕ → ℕ). g i) (cells-zeros (table .width))) in
     (omega (arith, R .sites), (omega (arith, R .keys), F .1 .1))
 
-module _ (S : State) (F : Fits S) where
-  put-fits : (s x v : ℕ) → PutReady S s x → v < 256 ^ 4 → Fits (r.put S s x v .after)
+module _ (E : Engine) (L : FitsEngine E) (S : State) (F : Fits S) where
+  put-fits : (s x v : ℕ) → PutReady S s x → v < 256 ^ 4 → Fits (r.put E S s x v .after)
   unfolding r.put
   put-fits s x v R h =
       let p : s < 8 = omega (arith, R .site, R .sound .sites) in
       let q : x < 64 = omega (arith, R .key, R .sound .keys) in
       let c : r.next S s s < 256 ^ 2 = omega (arith, applied-fits S F s s p p, R .clock) in
-      let u : Update = record { value = v; key = x; zero = 0; clock = r.next S s s; depends = S .depends s } in
-      let e : Entry = record { value = v; origin = s; zero = 0; clock = r.next S s s; depends = zeros } in
-      let U = with-update S F s (place (r.next S s s)) u p (omega arith) (h, (omega arith, (omega arith, (c, depends-fits S F s p)))) in
-      let E = with-entry _ U s x e p q (h, (omega arith, (omega arith, (c, zeros-fit)))) in
-      with-row _ (with-count _ E s s (r.next S s s) p p c) s _ p (note-fits _ s _ (depends-fits S F s p) p c)
+      let old = entry-fits S F s x p q in
+      let d = L .sent _ _ (depends-fits S F s p) old (omega (arith, get-origin S s x (record { sound = R .sound; site = R .site; key = R .key }), R .sound .sites)) in
+      let u : Update = record { value = v; key = x; zero = 0; clock = r.next S s s; depends = E .sent (S .depends s) (S .store s x) } in
+      let e : Entry = record { value = v; origin = s; zero = 0; clock = r.next S s s; depends = E .own (u .depends) } in
+      let U = with-update S F s (place (r.next S s s)) u p (omega arith) (h, (omega arith, (omega arith, (c, d)))) in
+      let N = with-entry _ U s x e p q (h, (omega arith, (omega arith, (c, L .own _ d)))) in
+      with-row _ (with-count _ N s s (r.next S s s) p p c) s _ p (L .left _ s _ d p c)
 
-  get-fits : (s x : ℕ) → GetReady S s x → Fits (r.get S s x .after)
+  get-fits : (s x : ℕ) → GetReady S s x → Fits (r.get E S s x .after)
   unfolding r.get learn
   get-fits s x R =
       choice (eqb (S .store s x .clock) 0) Fits (λ e. F) λ e.
@@ -122,10 +152,9 @@ module _ (S : State) (F : Fits S) where
       let g = entry-fits S F s x p (omega (arith, R .key, R .sound .keys)) in
       let w = S .store s x in
       let o : w .origin < 8 = omega (arith, get-origin S s x R, R .sound .sites) in
-      let joined = join (S .depends s) (w .depends) in
-      with-row S F s (note joined (w .origin) (w .clock)) p (note-fits joined (w .origin) (w .clock) (join-fits _ _ (depends-fits S F s p) (g .1 .1 .1 .1)) o (g .1 .1 .1 .0))
+      with-row S F s _ p (L .learned _ _ (depends-fits S F s p) g o)
 
-  deliver-fits : (s o : ℕ) → DeliverReady S s o → Fits (r.deliver S s o .after)
+  deliver-fits : (s o : ℕ) → DeliverReady S s o → Fits (r.deliver E S s o .after)
   unfolding r.deliver
   deliver-fits s o R =
       let p : s < 8 = omega (arith, R .site, R .sound .sites) in
@@ -133,11 +162,12 @@ module _ (S : State) (F : Fits S) where
       let c : r.next S s o < 256 ^ 2 = omega (arith, deliver-behind S s o R, applied-fits S F o o q q) in
       let g = update-fits S F o (place (r.next S s o)) q (omega arith) in
       let e : Entry = record { value = r.waiting S s o .value; origin = o; zero = 0; clock = r.next S s o; depends = r.waiting S s o .depends } in
-      let E = with-entry S F s (r.waiting S s o .key) e p (omega (arith, deliver-waiting S s o R .1, R .sound .keys))
-      (g .0, (omega arith, (omega arith, (c, g .1 .1 .1 .1)))) in
-      with-count _ E s o _ p q c
+      let N =
+      choice (E .replaces (r.waiting S s o) o (S .store s (r.waiting S s o .key))) (λ (m : ℕ → ℕ → Entry). Fits (withStore S m))
+      (λ z. with-entry S F s (r.waiting S s o .key) e p (omega (arith, deliver-waiting S s o R .1, R .sound .keys)) (g .0, (omega arith, (omega arith, (c, g .1 .1 .1 .1)))))
+      (λ z. F) in
+      with-count _ N s o _ p q c
 
--- gets of the keys below m
 -- a touch record is 4 bytes
 touched-fits : (S : State) (s x now u w : ℕ) → Fits S → TouchReady S s x now u w → touched (S .store s x .value) now u w < 256 ^ 4
 touched-fits S s x now u w F R =
@@ -145,20 +175,20 @@ touched-fits S s x now u w F R =
     let old : S .store s x .value < 256 ^ 4 = entry-fits S F s x (omega (arith, P .site, P .sound .sites)) (omega (arith, P .key, P .sound .keys)) .0 in
     choice (keepsHour u) (λ (h : ℕ). touchOf h u w < 256 ^ 4) (λ e. omega (arith, R .toucher, R .tier)) (λ e. omega (arith, R .toucher, R .tier, R .now))
 
-touch-fits : (S : State) (s x now u w : ℕ) → Fits S → TouchReady S s x now u w → Fits (r.touch S s x now u w .after)
+touch-fits : (E : Engine) → FitsEngine E → (S : State) (s x now u w : ℕ) → Fits S → TouchReady S s x now u w → Fits (r.touch E S s x now u w .after)
 unfolding r.touch r.get
-touch-fits S s x now u w F R =
+touch-fits E L S s x now u w F R =
     let P = R .put in
     let G : GetReady S s x = record { sound = P .sound; site = P .site; key = P .key } in
-    put-fits (learn S s x) (get-fits S F s x G) s x _ (apart-ready (learn-apart S s x) P) (touched-fits S s x now u w F R)
+    put-fits E L (learn E S s x) (get-fits E L S F s x G) s x _ (apart-ready (learn-apart E S s x) P) (touched-fits S s x now u w F R)
 
-drained-fits : (S : State) (s b : ℕ) → Fits S → Fits (drained S s b .after)
+drained-fits : (E : Engine) → FitsEngine E → (S : State) (s b : ℕ) → Fits S → Fits (drained E S s b .after)
 unfolding drained
-drained-fits S s b =
-    by-deliveries s (λ b S T ds t r. Fits S → Fits (r .after))
+drained-fits E L S s b =
+    by-deliveries E s (λ b S T ds t r. Fits S → Fits (r .after))
     (λ b S ds t F. F)
     (λ S o d ds t F. F)
-    (λ b S o d ds t r R f F. f (deliver-fits S F s o R))
+    (λ b S o d ds t r R f F. f (deliver-fits E L S F s o R))
     (λ b S o d ds t r z f F. f F)
     b S (turn (S .n) s 0 false) [] 0
 
@@ -181,17 +211,17 @@ adopt-sized s x o c s′ x′ v′ e = let z : _≡_ {A = ℕ} 0 1 = cc in omega
 pub deliver-sized : (s o : ℕ) → Sized (Deliver s o)
 deliver-sized s o s′ x′ v′ e = let z : _≡_ {A = ℕ} 0 1 = cc in omega arith
 
-step-fits : (S : State) (c : Call) → Sized c → Fits S → first (refusals S c) ≡ 0 → Fits (step S c .after)
+step-fits : (E : Engine) → FitsEngine E → (S : State) (c : Call) → Sized c → Fits S → first (refusals S c) ≡ 0 → Fits (step E S c .after)
 unfolding step drain r.cold r.look refusals
-step-fits S (Open n k) h F z = open-fits n k (open-ready n k .0 z)
-step-fits S (Put s x v) h F z = put-fits S F s x v (put-ready S s x .0 z) (h s x v refl)
-step-fits S (Get s x) h F z = get-fits S F s x (get-ready S s x .0 z)
-step-fits S (Deliver s o) h F z = deliver-fits S F s o (deliver-ready S s o .0 z)
-step-fits S (Drain s b) h F z = drained-fits S s b F
-step-fits S (Cold s now T m) h F z = F
-step-fits S (Touch s x now u w) h F z = touch-fits S s x now u w F (touch-ready S s x now u w z)
-step-fits S (Look s x) h F z = F
-step-fits S (Adopt s x o c) h F z = get-fits S F s x (adopt-ready S s x o c .0 z .get)
+step-fits E L S (Open n k) h F z = open-fits n k (open-ready n k .0 z)
+step-fits E L S (Put s x v) h F z = put-fits E L S F s x v (put-ready S s x .0 z) (h s x v refl)
+step-fits E L S (Get s x) h F z = get-fits E L S F s x (get-ready S s x .0 z)
+step-fits E L S (Deliver s o) h F z = deliver-fits E L S F s o (deliver-ready S s o .0 z)
+step-fits E L S (Drain s b) h F z = drained-fits E L S s b F
+step-fits E L S (Cold s now T m) h F z = F
+step-fits E L S (Touch s x now u w) h F z = touch-fits E L S s x now u w F (touch-ready S s x now u w z)
+step-fits E L S (Look s x) h F z = F
+step-fits E L S (Adopt s x o c) h F z = get-fits E L S F s x (adopt-ready S s x o c .0 z .get)
 
-pub run-fits : (S : State) (c : Call) → Sized c → Fits S → Fits (run S c .after)
-run-fits S c h F = after-run S c Fits (step-fits S c h F) F
+pub run-fits : (E : Engine) → FitsEngine E → (S : State) (c : Call) → Sized c → Fits S → Fits (run E S c .after)
+run-fits E L S c h F = after-run E S c Fits (step-fits E L S c h F) F

@@ -10,6 +10,7 @@ use borrow.Author.Tests.{eqb-true, eq-eqb, ne-eqb}
 use Rattle.clock.proofs.Maps.{both, choice, eq?}
 use Rattle.clock.proofs.Says.{Says, Denies}
 use Rattle.layout.specs.State.{State, stateOf}
+use Rattle.rules.specs.Engine.{Engine}
 use Rattle.rules.specs.Steps.{Numbers, Outcome}
 use Rattle.rules.specs.Refusals.{Refusals, first, open-refusals, put-refusals, get-refusals, adopt-refusals, deliver-refusals, site-refusals, touch-refusals, unless}
 use Rattle.rules.specs.Calls.{Call, Open, Put, Get, Deliver, Drain, Cold, Touch, Look, Adopt, words, inside, refusals, beside, step, run, asks}
@@ -166,19 +167,19 @@ beside-code S (Look s x) e = refl
 beside-code S (Adopt s x o c) e = refl
 
 -- the step where no condition holds; else a refusal
-pub run-cases : (S : State) (c : Call)
-    → ((first (refusals S c) ≡ 0) × (run S c ≡ step S c))
-    ⊎ ((first (refusals S c) ≢ 0) × (run S c ≡ record { answer = beside S c (first (refusals S c)); after = S }))
+pub run-cases : (E : Engine) (S : State) (c : Call)
+    → ((first (refusals S c) ≡ 0) × (run E S c ≡ step E S c))
+    ⊎ ((first (refusals S c) ≢ 0) × (run E S c ≡ record { answer = beside S c (first (refusals S c)); after = S }))
 unfolding run
-run-cases S c =
+run-cases E S c =
     ⊎-elim
-    (λ e. inl (e, unless-none (refusals S c) (beside S c) S (step S c) e))
-    (λ e. inr (e, unless-first (refusals S c) (beside S c) S (step S c) _ refl e))
+    (λ e. inl (e, unless-none (refusals S c) (beside S c) S (step E S c) e))
+    (λ e. inr (e, unless-first (refusals S c) (beside S c) S (step E S c) _ refl e))
     (eq? (first (refusals S c)) 0)
 
-pub run-refused : (S : State) (c : Call) → first (refusals S c) ≢ 0 → run S c .answer .code ≡ first (refusals S c)
-run-refused S c h =
-    ⊎-elim (λ p. absurd (h (p .0))) (λ p. ap (λ (r : Outcome). r .answer .code) (p .1) ∙ beside-code S c (first (refusals S c))) (run-cases S c)
+pub run-refused : (E : Engine) (S : State) (c : Call) → first (refusals S c) ≢ 0 → run E S c .answer .code ≡ first (refusals S c)
+run-refused E S c h =
+    ⊎-elim (λ p. absurd (h (p .0))) (λ p. ap (λ (r : Outcome). r .answer .code) (p .1) ∙ beside-code S c (first (refusals S c))) (run-cases E S c)
 
-pub run-accepted : (S : State) (c : Call) → run S c .answer .code ≡ 0 → (first (refusals S c) ≡ 0) × (run S c ≡ step S c)
-run-accepted S c z = ⊎-elim (λ p. p) (λ p. absurd (p .0 (sym (run-refused S c (p .0)) ∙ z))) (run-cases S c)
+pub run-accepted : (E : Engine) (S : State) (c : Call) → run E S c .answer .code ≡ 0 → (first (refusals S c) ≡ 0) × (run E S c ≡ step E S c)
+run-accepted E S c z = ⊎-elim (λ p. p) (λ p. absurd (p .0 (sym (run-refused E S c (p .0)) ∙ z))) (run-cases E S c)

@@ -9,6 +9,7 @@ use Rattle.clock.specs.Vector.{Vector}
 use Rattle.clock.proofs.Maps.{choice, eq?, at-is₂}
 use Rattle.layout.specs.State.{State, Entry, Update, withDepends}
 use Rattle.rules.specs.Sound.{place, Blank, Written, Retained, Sound}
+use Rattle.rules.specs.Engine.{Engine}
 use Rattle.rules.specs.Steps.{opened, put, learn, get, deliver, next, waiting}
 use Rattle.laws.proofs.Ready.{OpenReady, PutReady, GetReady, DeliverReady}
 
@@ -70,19 +71,20 @@ open-sound n k R =
 -- ## Deliver
 
 module _ (S : State) (s o : ℕ) (R : DeliverReady S s o) where
-  abbrev T₁ : State
-  T₁ = deliver S s o .after
-
-  pub deliver-own : (o′ : ℕ) → T₁ .applied o′ o′ ≡ S .applied o′ o′
-  unfolding deliver
-  deliver-own o′ = ⊎-elim (λ p. absurd (R .others (p .0 ∙ sym (p .1)))) (λ p. p .1) (at-is₂ (S .applied) s o (next S s o) o′ o′)
-
   pub deliver-behind : S .applied s o < S .applied o o
   deliver-behind = omega (arith, R .behind, R .sound .most s o (R .site) (R .origin))
 
   -- the next update stands at its place
   pub deliver-waiting : (waiting S s o .clock ≡ next S s o) × (waiting S s o .key < S .k)
   deliver-waiting = R .sound .kept o (next S s o) (R .origin) (record { made = deliver-behind; by = s; site = R .site; lacks = omega arith })
+
+module _ (E : Engine) (S : State) (s o : ℕ) (R : DeliverReady S s o) where
+  abbrev T₁ : State
+  T₁ = deliver E S s o .after
+
+  pub deliver-own : (o′ : ℕ) → T₁ .applied o′ o′ ≡ S .applied o′ o′
+  unfolding deliver
+  deliver-own o′ = ⊎-elim (λ p. absurd (R .others (p .0 ∙ sym (p .1)))) (λ p. p .1) (at-is₂ (S .applied) s o (next S s o) o′ o′)
 
   pub deliver-retained : (o′ c : ℕ) → Retained T₁ o′ c → Retained S o′ c
   unfolding deliver
@@ -111,7 +113,11 @@ module _ (S : State) (s o : ℕ) (R : DeliverReady S s o) where
         zeros = R .sound .zeros;
         most = deliver-most;
         room = λ s′ o′ p q. omega (arith, deliver-own o′, up-le (S .applied) s o s′ o′, R .sound .room s′ o′ p q);
-        entries = λ s′ x p q. entry-kept S T₁ s o refl refl (waiting S s o .key) _ (R .origin) refl refl s′ x (R .sound .entries s′ x p q);
+        entries = λ s′ x p q.
+            let g = R .sound .entries s′ x p q in
+            choice (E .replaces (waiting S s o) o (S .store s (waiting S s o .key))) (λ (m : ℕ → ℕ → Entry). Good T₁ s′ (m s′ x))
+            (λ e. entry-kept S T₁ s o refl refl (waiting S s o .key) _ (R .origin) refl refl s′ x g)
+            (λ e. older S T₁ s o refl refl s′ _ g);
         kept = λ o′ c p r. R .sound .kept o′ c p (deliver-retained o′ c r);
       }
 
@@ -130,9 +136,9 @@ depends-sound S d D =
       kept = λ o c p r. D .kept o c p (record { made = r .made; by = r .by; site = r .site; lacks = r .lacks });
     }
 
-pub get-sound : (S : State) (s x : ℕ) → Sound S → Sound (get S s x .after)
+pub get-sound : (E : Engine) (S : State) (s x : ℕ) → Sound S → Sound (get E S s x .after)
 unfolding get learn
-get-sound S s x D = choice (eqb (S .store s x .clock) 0) Sound (λ e. D) (λ e. depends-sound S _ D)
+get-sound E S s x D = choice (eqb (S .store s x .clock) 0) Sound (λ e. D) (λ e. depends-sound S _ D)
 
 module _ (S : State) (s x : ℕ) (R : GetReady S s x) where
   -- that of a never-written key is 0
@@ -144,12 +150,12 @@ module _ (S : State) (s x : ℕ) (R : GetReady S s x) where
 
 -- ## Put
 
-module _ (S : State) (s x v : ℕ) (R : PutReady S s x) where
+module _ (E : Engine) (S : State) (s x v : ℕ) (R : PutReady S s x) where
   abbrev T₂ : State
-  T₂ = put S s x v .after
+  T₂ = put E S s x v .after
 
   abbrev pub fresh : Update
-  fresh = record { value = v; key = x; zero = 0; clock = next S s s; depends = S .depends s }
+  fresh = record { value = v; key = x; zero = 0; clock = next S s s; depends = E .sent (S .depends s) (S .store s x) }
 
   -- the sixteen clocks up to the new one have places of their own
   apart : (c : ℕ) → 1 ≤ c → c < next S s s → next S s s < c + 16 → place (next S s s) ≢ place c

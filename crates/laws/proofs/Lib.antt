@@ -15,3 +15,6 @@ pub mod Serving
 pub mod Looks
 pub mod Fitting
 pub mod Outcomes
+pub mod Agreeing
+pub mod Agreed
+pub mod Sharing

@@ -14,6 +14,7 @@ use Rattle.layout.specs.State.{State, stateOf, bytesOf, table}
 use Rattle.layout.specs.Ranges.{Bytes}
 use Rattle.layout.proofs.TableTrips.{bytes-back}
 use Rattle.rules.specs.Sound.{sound}
+use Rattle.rules.specs.Engine.{Engine, ours}
 use Rattle.rules.specs.Steps.{refused, done, learn, get, look, cold}
 use Rattle.rules.specs.Refusals.{first, get-refusals, adopt-refusals}
 use Rattle.rules.specs.Calls.{Call, Get, Look, Adopt, Cold, refusals, beside, step, asks, Served, serve, serve-list}
@@ -24,26 +25,26 @@ use Rattle.laws.proofs.Keeps.{get-origin, get-never}
 use Rattle.laws.proofs.Serving.{asks-clear, asks-long, serve-step, serve-refused, serve-accepted}
 
 -- a step that leaves the table leaves the bytes
-kept : (t : List ℕ) → Bytes t → (c : Call) → step (stateOf t) c .after ≡ stateOf t → serve t c .bytes ≡ t
-kept t b c e =
+kept : (E : Engine) (t : List ℕ) → Bytes t → (c : Call) → step E (stateOf t) c .after ≡ stateOf t → serve E t c .bytes ≡ t
+kept E t b c e =
     ⊎-elim
-    (λ z. ap (λ (w : Served). w .bytes) (serve-step t c z) ∙ ap bytesOf e ∙ bytes-back t (asks-clear t c z .0) b)
-    (λ z. ap (λ (w : Served). w .bytes) (serve-refused t c z))
+    (λ z. ap (λ (w : Served). w .bytes) (serve-step E t c z) ∙ ap bytesOf e ∙ bytes-back t (asks-clear t c z .0) b)
+    (λ z. ap (λ (w : Served). w .bytes) (serve-refused E t c z))
     (eq? (first (asks t c)) 0)
 
 pub look-keeps : LookKeeps
 unfolding step get look asks refusals get-refusals beside
-look-keeps t b s x = (
+look-keeps E t b s x = (
   ⊎-elim
-      (λ z. ap (λ (w : Served). w .answer) (serve-step t (Look s x) z) ∙ sym (ap (λ (w : Served). w .answer) (serve-step t (Get s x) z)))
-      (λ z. ap (λ (w : Served). w .answer) (serve-refused t (Look s x) z) ∙ sym (ap (λ (w : Served). w .answer) (serve-refused t (Get s x) z)))
+      (λ z. ap (λ (w : Served). w .answer) (serve-step E t (Look s x) z) ∙ sym (ap (λ (w : Served). w .answer) (serve-step E t (Get s x) z)))
+      (λ z. ap (λ (w : Served). w .answer) (serve-refused E t (Look s x) z) ∙ sym (ap (λ (w : Served). w .answer) (serve-refused E t (Get s x) z)))
       (eq? (first (asks t (Look s x))) 0),
-  kept t b (Look s x) refl,
+  kept E t b (Look s x) refl,
 )
 
 pub cold-keeps : ColdKeeps
 unfolding step cold serve-list
-cold-keeps t b l s now T = kept t b (Cold s now T _) refl
+cold-keeps t b l s now T = kept ours t b (Cold s now T _) refl
 
 -- ## Adopt
 
@@ -82,39 +83,39 @@ module _ (t : List ℕ) (s x : ℕ) where
 
 pub adopt-is-get : AdoptIsGet
 unfolding step refusals
-adopt-is-get t s x o c z =
-    let a = serve-accepted t (Adopt s x o c) z in
+adopt-is-get E t s x o c z =
+    let a = serve-accepted E t (Adopt s x o c) z in
     let r = asks-clear t (Adopt s x o c) a in
-    serve-step t (Adopt s x o c) a ∙ sym (serve-step t (Get s x) (asks-long t (Get s x) (r .0) ∙ get-ready (stateOf t) s x .1 (named t s x o c a .get)))
+    serve-step E t (Adopt s x o c) a ∙ sym (serve-step E t (Get s x) (asks-long t (Get s x) (r .0) ∙ get-ready (stateOf t) s x .1 (named t s x o c a .get)))
 
 pub adopt-answers : AdoptAnswers
 unfolding step get
-adopt-answers t s x o c z =
-    let a = serve-accepted t (Adopt s x o c) z in
+adopt-answers E t s x o c z =
+    let a = serve-accepted E t (Adopt s x o c) z in
     let R = named t s x o c a in
-    ap (λ (w : Served). w .answer) (serve-step t (Adopt s x o c) a) ∙ (λ i. done x (R .origin i) (R .clock i) (stateOf t .store s x .value))
+    ap (λ (w : Served). w .answer) (serve-step E t (Adopt s x o c) a) ∙ (λ i. done x (R .origin i) (R .clock i) (stateOf t .store s x .value))
 
 pub get-is-both : GetIsBoth
 unfolding step look get asks refusals get-refusals beside
-get-is-both t b s x =
-    (λ i. serve (look-keeps t b s x .1 i) (Adopt s x (serve t (Look s x) .answer .site) (serve t (Look s x) .answer .clock)))
+get-is-both E t b s x =
+    (λ i. serve E (look-keeps E t b s x .1 i) (Adopt s x (serve E t (Look s x) .answer .site) (serve E t (Look s x) .answer .clock)))
     ∙ ⊎-elim
     (λ z.
-    let e = serve-step t (Look s x) z in
-    (λ i. serve t (Adopt s x (e i .answer .site) (e i .answer .clock))) ∙ serve-step t _ (adopts t s x z) ∙ sym (serve-step t (Get s x) z))
+    let e = serve-step E t (Look s x) z in
+    (λ i. serve E t (Adopt s x (e i .answer .site) (e i .answer .clock))) ∙ serve-step E t _ (adopts t s x z) ∙ sym (serve-step E t (Get s x) z))
     (λ z.
-    let e = serve-refused t (Look s x) z in
-    (λ i. serve t (Adopt s x (e i .answer .site) (e i .answer .clock)))
-    ∙ serve-refused t (Adopt s x 0 0) (λ q. z (sym (asks-alike t s x z) ∙ q))
+    let e = serve-refused E t (Look s x) z in
+    (λ i. serve E t (Adopt s x (e i .answer .site) (e i .answer .clock)))
+    ∙ serve-refused E t (Adopt s x 0 0) (λ q. z (sym (asks-alike t s x z) ∙ q))
     ∙ (λ i. record { answer = refused (asks-alike t s x z i); bytes = t })
-    ∙ sym (serve-refused t (Get s x) z))
+    ∙ sym (serve-refused E t (Get s x) z))
     (eq? (first (asks t (Look s x))) 0)
 
 pub adopt-never : AdoptNever
 unfolding step get learn
-adopt-never t b s x z k =
+adopt-never E t b s x z k =
     let B = get-never (stateOf t) s x (looks t s x z .1) k in
     let a : first (asks t (Adopt s x 0 0)) ≡ 0 = (λ i. first (asks t (Adopt s x (sym (B .origin) i) (sym k i)))) ∙ adopts t s x z in (
-      ap (λ (w : Served). w .answer) (serve-step t (Adopt s x 0 0) a) ∙ (λ i. done x (B .origin i) (B .clock i) (B .value i)),
-      kept t b (Adopt s x 0 0) (rw k),
+      ap (λ (w : Served). w .answer) (serve-step E t (Adopt s x 0 0) a) ∙ (λ i. done x (B .origin i) (B .clock i) (B .value i)),
+      kept E t b (Adopt s x 0 0) (rw k),
     )

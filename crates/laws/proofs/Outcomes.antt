@@ -6,17 +6,18 @@ use lib.ListN.{length}
 use Rattle.layout.specs.State.{State, table, stateOf}
 use Rattle.layout.specs.Ranges.{Bytes}
 use Rattle.layout.proofs.TableTrips.{state-back, state-fits}
+use Rattle.rules.specs.Engine.{Engine}
 use Rattle.rules.specs.Steps.{Outcome}
 use Rattle.rules.specs.Calls.{Call, run, Served, serve}
 use Rattle.laws.proofs.Serving.{serve-long}
-use Rattle.laws.proofs.Fitting.{Sized, run-fits}
+use Rattle.laws.proofs.Fitting.{FitsEngine, Sized, run-fits}
 
 -- what is served, read as a state again
 abbrev pub outcome : Served → Outcome
 outcome r = record { answer = r .answer; after = stateOf (r .bytes) }
 
-module _ (t : List ℕ) (c : Call) where
-  pub outcome-is : length t ≡ table .width → Bytes t → Sized c → outcome (serve t c) ≡ run (stateOf t) c
+module _ (E : Engine) (L : FitsEngine E) (t : List ℕ) (c : Call) where
+  pub outcome-is : length t ≡ table .width → Bytes t → Sized c → outcome (serve E t c) ≡ run E (stateOf t) c
   outcome-is h b z =
-      ap outcome (serve-long t c h b)
-      ∙ ap (λ (S : State). record { answer = run (stateOf t) c .answer; after = S }) (state-back (run (stateOf t) c .after) (run-fits (stateOf t) c z (state-fits t h b)))
+      ap outcome (serve-long E t c h b)
+      ∙ ap (λ (S : State). record { answer = run E (stateOf t) c .answer; after = S }) (state-back (run E (stateOf t) c .after) (run-fits E L (stateOf t) c z (state-fits t h b)))

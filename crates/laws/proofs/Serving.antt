@@ -11,6 +11,7 @@ use Rattle.clock.proofs.Maps.{eq?}
 use Rattle.layout.specs.State.{State, stateOf, bytesOf, table}
 use Rattle.layout.specs.Ranges.{Bytes}
 use Rattle.layout.proofs.TableTrips.{bytes-back}
+use Rattle.rules.specs.Engine.{Engine}
 use Rattle.rules.specs.Steps.{Outcome, refused}
 use Rattle.rules.specs.Refusals.{Refusals, first}
 use Rattle.rules.specs.Calls.{Call, Open, Put, Get, Deliver, Drain, Cold, Touch, Look, Adopt, words, inside, refusals, beside, step, run, asks, Served, serve}
@@ -71,40 +72,41 @@ module _ (t : List ℕ) (c : Call) where
       (λ e. absurd (asks-some e z))
       (eq? (length t) (table .width))
 
-  -- ## What is served
+-- ## What is served
 
-  pub serve-step : first (asks t c) ≡ 0 → serve t c ≡ served (step (stateOf t) c)
+module _ (E : Engine) (t : List ℕ) (c : Call) where
+  pub serve-step : first (asks t c) ≡ 0 → serve E t c ≡ served (step E (stateOf t) c)
   unfolding serve
   serve-step z = rw (eq-eqb (first (asks t c)) 0 z)
 
-  pub serve-refused : first (asks t c) ≢ 0 → serve t c ≡ record { answer = beside (stateOf t) c (first (asks t c)); bytes = t }
+  pub serve-refused : first (asks t c) ≢ 0 → serve E t c ≡ record { answer = beside (stateOf t) c (first (asks t c)); bytes = t }
   unfolding serve
   serve-refused z = rw (ne-eqb (first (asks t c)) 0 z)
 
   -- the buffer has another size
-  pub serve-short : length t ≢ table .width → let e = first (words c ++ ((1, true) ∷ [])) in serve t c ≡ record { answer = refused e; bytes = t }
+  pub serve-short : length t ≢ table .width → let e = first (words c ++ ((1, true) ∷ [])) in serve E t c ≡ record { answer = refused e; bytes = t }
   serve-short h =
-      serve-refused (asks-some h)
-      ∙ (λ i. record { answer = beside (stateOf t) c (asks-short h i); bytes = t })
+      serve-refused (asks-some t c h)
+      ∙ (λ i. record { answer = beside (stateOf t) c (asks-short t c h i); bytes = t })
       ∙ (λ i. record { answer = beside-words (stateOf t) c i; bytes = t })
 
-  pub serve-accepted : serve t c .answer .code ≡ 0 → first (asks t c) ≡ 0
+  pub serve-accepted : serve E t c .answer .code ≡ 0 → first (asks t c) ≡ 0
   serve-accepted z =
       ⊎-elim
       (λ (e : first (asks t c) ≡ 0). e)
       (λ e. sym (beside-code (stateOf t) c (first (asks t c))) ∙ sym (ap (λ (r : Served). r .answer .code) (serve-refused e)) ∙ z)
       (eq? (first (asks t c)) 0)
 
-  pub serve-long : length t ≡ table .width → Bytes t → serve t c ≡ served (run (stateOf t) c)
+  pub serve-long : length t ≡ table .width → Bytes t → serve E t c ≡ served (run E (stateOf t) c)
   serve-long h b =
       ⊎-elim
-      (λ p. serve-step (asks-long h ∙ p .0) ∙ ap served (sym (p .1)))
+      (λ p. serve-step (asks-long t c h ∙ p .0) ∙ ap served (sym (p .1)))
       (λ p.
-      serve-refused (λ z. p .0 (sym (asks-long h) ∙ z))
-      ∙ (λ i. record { answer = beside (stateOf t) c (asks-long h i); bytes = sym (bytes-back t h b) i })
+      serve-refused (λ z. p .0 (sym (asks-long t c h) ∙ z))
+      ∙ (λ i. record { answer = beside (stateOf t) c (asks-long t c h i); bytes = sym (bytes-back t h b) i })
       ∙ ap served (sym (p .1)))
-      (run-cases (stateOf t) c)
+      (run-cases E (stateOf t) c)
 
-  pub serve-runs : (t′ : List ℕ) → length t ≡ table .width → Bytes t → length t′ ≡ table .width → Bytes t′ → stateOf t′ ≡ run (stateOf t) c .after
-      → serve t c ≡ record { answer = run (stateOf t) c .answer; bytes = t′ }
-  serve-runs t′ h b h′ b′ e = serve-long h b ∙ (λ i. record { answer = run (stateOf t) c .answer; bytes = (ap bytesOf (sym e) ∙ bytes-back t′ h′ b′) i })
+  pub serve-runs : (t′ : List ℕ) → length t ≡ table .width → Bytes t → length t′ ≡ table .width → Bytes t′ → stateOf t′ ≡ run E (stateOf t) c .after
+      → serve E t c ≡ record { answer = run E (stateOf t) c .answer; bytes = t′ }
+  serve-runs t′ h b h′ b′ e = serve-long h b ∙ (λ i. record { answer = run E (stateOf t) c .answer; bytes = (ap bytesOf (sym e) ∙ bytes-back t′ h′ b′) i })

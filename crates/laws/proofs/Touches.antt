@@ -8,9 +8,10 @@ use lib.Dec.{eqb}
 use borrow.Author.Tests.{ne-eqb}
 use Rattle.clock.specs.Map.{if_then_else_}
 use Rattle.clock.proofs.Maps.{both, at-is₂}
-use Rattle.clock.specs.Vector.{zeros}
+use Rattle.clock.specs.Vector.{Vector}
 use Rattle.layout.specs.State.{State, Entry}
 use Rattle.rules.specs.Touch.{hourOf, touchOf, wellFormed, keepsHour, touched, recorded, never, malformed, aged, age, kind}
+use Rattle.rules.specs.Engine.{Engine}
 use Rattle.rules.specs.Steps.{Outcome, put, learn, get, touch, cold}
 use Rattle.rules.specs.Calls.{Put, Get, Cold, Touch, refusals, step, run}
 use Rattle.laws.specs.Touches.{ColdAnswers, TouchIsBoth, ScanKeepsColdness}
@@ -23,18 +24,18 @@ use Rattle.laws.proofs.After.{after-run}
 
 pub touch-is-both : TouchIsBoth
 unfolding refusals step get touch put
-touch-is-both S s x now u r z =
-    let a = run-accepted S (Touch s x now u r) z in
+touch-is-both E S s x now u r z =
+    let a = run-accepted E S (Touch s x now u r) z in
     let P = touch-ready S s x now u r (a .0) .put in
     let v = touched (S .store s x .value) now u r in
-    let g : run S (Get s x) .answer .code ≡ 0 = accepted-first S (Get s x) refl .1 (get-ready S s x .1 (record { sound = P .sound; site = P .site; key = P .key })) in
-    let f : run S (Get s x) .after ≡ learn S s x = ap (λ (o : Outcome). o .after) (run-accepted S (Get s x) g .1) in
-    let w = accepted-first (learn S s x) (Put s x v) refl .1 (put-ready (learn S s x) s x .1 (apart-ready (learn-apart S s x) P)) in
-    record { gets = g; puts = a .1 ∙ sym (run-accepted (learn S s x) (Put s x v) w .1) ∙ ap (λ (T : State). run T (Put s x v)) (sym f) }
+    let g : run E S (Get s x) .answer .code ≡ 0 = accepted-first E S (Get s x) refl .1 (get-ready S s x .1 (record { sound = P .sound; site = P .site; key = P .key })) in
+    let f : run E S (Get s x) .after ≡ learn E S s x = ap (λ (o : Outcome). o .after) (run-accepted E S (Get s x) g .1) in
+    let w = accepted-first E (learn E S s x) (Put s x v) refl .1 (put-ready (learn E S s x) s x .1 (apart-ready (learn-apart E S s x) P)) in
+    record { gets = g; puts = a .1 ∙ sym (run-accepted E (learn E S s x) (Put s x v) w .1) ∙ ap (λ (T : State). run E T (Put s x v)) (sym f) }
 
 pub cold-answers : ColdAnswers
 unfolding step cold
-cold-answers S s now T m z = ap (λ (o : Outcome). o .answer) (run-accepted S (Cold s now T m) z .1)
+cold-answers E S s now T m z = ap (λ (o : Outcome). o .answer) (run-accepted E S (Cold s now T m) z .1)
 
 -- a written entry with a well formed record, by its hour
 kind-recorded : (hour T : ℕ) (e : Entry) → recorded e ≡ true → kind hour T e ≡ aged T (age hour (hourOf (e .value)))
@@ -46,7 +47,7 @@ kind-recorded hour T e = go (eqb (e .clock) 0) (wellFormed (e .value))
     go false true q = refl
     go false false q = both q refl
 
-module _ (S : State) (s x now u r : ℕ) (h : keepsHour u ≡ true) (R : TouchReady S s x now u r) where
+module _ (E : Engine) (S : State) (s x now u r : ℕ) (h : keepsHour u ≡ true) (R : TouchReady S s x now u r) where
   abbrev old : ℕ
   old = S .store s x .value
 
@@ -54,26 +55,26 @@ module _ (S : State) (s x now u r : ℕ) (h : keepsHour u ≡ true) (R : TouchRe
   scanned : touched old now u r ≡ touchOf (hourOf old) u r
   scanned = rw h
 
-  new-recorded : (c : ℕ) → recorded (record { value = touched old now u r; origin = s; zero = 0; clock = suc c; depends = zeros }) ≡ true
-  new-recorded c = rw (ne-eqb (suc c) 0 (λ e. omega arith), scanned) (touch-formed (hourOf old) u r (R .toucher) (R .tier))
+  new-recorded : (c : ℕ) (d : Vector) → recorded (record { value = touched old now u r; origin = s; zero = 0; clock = suc c; depends = d }) ≡ true
+  new-recorded c d = rw (ne-eqb (suc c) 0 (λ e. omega arith), scanned) (touch-formed (hourOf old) u r (R .toucher) (R .tier))
 
-  same-kind : (hour T c : ℕ) → kind hour T (record { value = touched old now u r; origin = s; zero = 0; clock = suc c; depends = zeros }) ≡ kind hour T (S .store s x)
-  same-kind hour T c =
-      kind-recorded hour T _ (new-recorded c)
+  same-kind : (hour T c : ℕ) (d : Vector) → kind hour T (record { value = touched old now u r; origin = s; zero = 0; clock = suc c; depends = d }) ≡ kind hour T (S .store s x)
+  same-kind hour T c d =
+      kind-recorded hour T _ (new-recorded c d)
       ∙ ap (λ (h : ℕ). aged T (age hour h)) (ap hourOf scanned ∙ touch-back (hourOf old) u r (R .toucher) (R .tier) .0)
       ∙ sym (kind-recorded hour T (S .store s x) (R .old h))
 
-  step-keeps : (hour T y : ℕ) → kind hour T (touch S s x now u r .after .store s y) ≡ kind hour T (S .store s y)
+  step-keeps : (hour T y : ℕ) → kind hour T (touch E S s x now u r .after .store s y) ≡ kind hour T (S .store s y)
   unfolding touch put
   step-keeps hour T y =
-      let p = learn-apart S s x in
+      let p = learn-apart E S s x in
       ⊎-elim
-      (λ q. ap (kind hour T) (q .2) ∙ same-kind hour T _ ∙ ap (λ (z : ℕ). kind hour T (S .store s z)) (q .1))
+      (λ q. ap (kind hour T) (q .2) ∙ same-kind hour T _ _ ∙ ap (λ (z : ℕ). kind hour T (S .store s z)) (q .1))
       (λ q. ap (kind hour T) (q .1 ∙ ap (λ (Q : State). Q .store s y) (p .1)))
-      (at-is₂ (learn S s x .store) s x _ s y)
+      (at-is₂ (learn E S s x .store) s x _ s y)
 
 pub scan-keeps-coldness : ScanKeepsColdness
 unfolding step
-scan-keeps-coldness S s x now u r h hour T y =
-    after-run S (Touch s x now u r) (λ Q. kind hour T (Q .store s y) ≡ kind hour T (S .store s y))
-    (λ z. step-keeps S s x now u r h (touch-ready S s x now u r z) hour T y) refl
+scan-keeps-coldness E S s x now u r h hour T y =
+    after-run E S (Touch s x now u r) (λ Q. kind hour T (Q .store s y) ≡ kind hour T (S .store s y))
+    (λ z. step-keeps E S s x now u r h (touch-ready S s x now u r z) hour T y) refl

@@ -7,6 +7,7 @@ use Rattle.clock.proofs.Maps.{choice}
 use Rattle.layout.specs.State.{State, withDepends}
 use Rattle.rules.specs.Sound.{Sound}
 use Rattle.rules.specs.Touch.{touched}
+use Rattle.rules.specs.Engine.{Engine}
 use Rattle.rules.specs.Steps.{learn, touch}
 use Rattle.laws.proofs.Ready.{PutReady}
 use Rattle.laws.proofs.Keeps.{depends-sound, put-sound}
@@ -15,9 +16,9 @@ use Rattle.laws.proofs.Keeps.{depends-sound, put-sound}
 abbrev pub Apart : State → State → Type 0
 Apart S T = (d : ℕ → Vector) × (T ≡ withDepends S d)
 
-pub learn-apart : (S : State) (s x : ℕ) → Apart S (learn S s x)
+pub learn-apart : (E : Engine) (S : State) (s x : ℕ) → Apart S (learn E S s x)
 unfolding learn
-learn-apart S s x = choice (eqb (S .store s x .clock) 0) (Apart S) (λ e. (S .depends, refl)) (λ e. (_, refl))
+learn-apart E S s x = choice (eqb (S .store s x .clock) 0) (Apart S) (λ e. (S .depends, refl)) (λ e. (_, refl))
 
 pub apart-sound : {S T : State} → Apart S T → Sound S → Sound T
 apart-sound {S} p D = subst Sound (sym (p .1)) (depends-sound S (p .0) D)
@@ -27,6 +28,6 @@ apart-ready {S} {s = s} {x = x} p R =
     subst (λ (T : State). PutReady T s x) (sym (p .1))
     (record { sound = depends-sound S (p .0) (R .sound); site = R .site; key = R .key; clock = R .clock; room = R .room })
 
-pub touch-sound : (S : State) (s x now u r : ℕ) → PutReady S s x → Sound (touch S s x now u r .after)
+pub touch-sound : (E : Engine) (S : State) (s x now u r : ℕ) → PutReady S s x → Sound (touch E S s x now u r .after)
 unfolding touch
-touch-sound S s x now u r R = put-sound (learn S s x) s x (touched (S .store s x .value) now u r) (apart-ready (learn-apart S s x) R)
+touch-sound E S s x now u r R = put-sound E (learn E S s x) s x (touched (S .store s x .value) now u r) (apart-ready (learn-apart E S s x) R)

@@ -13,6 +13,7 @@ use borrow.Author.Tests.{ltb-true, ltb-false}
 use Rattle.clock.specs.Map.{if_then_else_}
 use Rattle.clock.proofs.Maps.{choice, at-is₂}
 use Rattle.layout.specs.State.{State}
+use Rattle.rules.specs.Engine.{Engine}
 use Rattle.rules.specs.Steps.{Numbers, deliver, next}
 use Rattle.rules.specs.Drain.{Turn, end, due, skip, turn, Drained, passes, drained, drain}
 use Rattle.laws.specs.Theorems.{sum, pending, DrainRises, TriesBounded, PendingBounded, BudgetEnough}
@@ -24,9 +25,9 @@ use Rattle.laws.proofs.Turns.{skip-is, Fair, turn-fair}
 
 -- ## An accepted try
 
-module _ (S : State) (s o : ℕ) (R : DeliverReady S s o) where
+module _ (E : Engine) (S : State) (s o : ℕ) (R : DeliverReady S s o) where
   abbrev T : State
-  T = deliver S s o .after
+  T = deliver E S s o .after
 
   other-column : (i : ℕ) → i ≢ o → T .applied s i ≡ S .applied s i
   unfolding deliver
@@ -40,24 +41,24 @@ module _ (S : State) (s o : ℕ) (R : DeliverReady S s o) where
   unfolding deliver pending
   deliver-pending =
       sum-more (λ i. T .applied i i - T .applied s i) (λ i. S .applied i i - S .applied s i) (S .n) o (R .origin)
-      (omega (arith, deliver-own S s o R o, up-new (S .applied) s o, deliver-behind S s o R))
-      (λ i q. omega (arith, deliver-own S s o R i, other-column i q))
+      (omega (arith, deliver-own E S s o R o, up-new (S .applied) s o, deliver-behind S s o R))
+      (λ i q. omega (arith, deliver-own E S s o R i, other-column i q))
 
 -- ## Deliveries
 
-passes-rise : (m s b : ℕ) (S : State) (T : Turn) (ds : List Numbers) (t : ℕ) → S .n ≤ m
-    → sum m (passes b S s T ds t .after .applied s) + length ds ≡ sum m (S .applied s) + length (passes b S s T ds t .made)
+passes-rise : (E : Engine) (m s b : ℕ) (S : State) (T : Turn) (ds : List Numbers) (t : ℕ) → S .n ≤ m
+    → sum m (passes E b S s T ds t .after .applied s) + length ds ≡ sum m (S .applied s) + length (passes E b S s T ds t .made)
 unfolding deliver
-passes-rise m s =
-    by-deliveries s (λ b S T ds t r. S .n ≤ m → sum m (r .after .applied s) + length ds ≡ sum m (S .applied s) + length (r .made))
+passes-rise E m s =
+    by-deliveries E s (λ b S T ds t r. S .n ≤ m → sum m (r .after .applied s) + length ds ≡ sum m (S .applied s) + length (r .made))
     (λ b S ds t h. refl)
     (λ S o d ds t h. refl)
-    (λ b S o d ds t r R f h. omega (arith, f h, deliver-rises S s o R m h))
+    (λ b S o d ds t r R f h. omega (arith, f h, deliver-rises E S s o R m h))
     (λ b S o d ds t r z f h. f h)
 
 pub drain-rises : DrainRises
 unfolding drained drain
-drain-rises S s b m h = omega (arith, passes-rise m s b S (turn (S .n) s 0 false) [] 0 h)
+drain-rises E S s b m h = omega (arith, passes-rise E m s b S (turn (S .n) s 0 false) [] 0 h)
 
 -- ## Tries
 
@@ -127,22 +128,22 @@ Bounded b c t r = (r .tries ≤ t + c) × (c ≤ b → r .code ≡ 0)
 bounded-next : (b c c′ t : ℕ) (r : Drained) → c < c′ → Bounded b c (suc t) r → Bounded (suc b) c′ t r
 bounded-next b c c′ t r h p = (omega (arith, p .0), λ l. p .1 (omega arith))
 
-passes-bounded : (s b : ℕ) (S : State) (T : Turn) (ds : List Numbers) (t : ℕ) → s < S .n → Fair (S .n) s T
-    → Bounded b (cost (S .n) s (pending S s) T) t (passes b S s T ds t)
+passes-bounded : (E : Engine) (s b : ℕ) (S : State) (T : Turn) (ds : List Numbers) (t : ℕ) → s < S .n → Fair (S .n) s T
+    → Bounded b (cost (S .n) s (pending S s) T) t (passes E b S s T ds t)
 unfolding deliver
-passes-bounded s =
-    by-deliveries s (λ b S T ds t r. s < S .n → Fair (S .n) s T → Bounded b (cost (S .n) s (pending S s) T) t r)
+passes-bounded E s =
+    by-deliveries E s (λ b S T ds t r. s < S .n → Fair (S .n) s T → Bounded b (cost (S .n) s (pending S s) T) t r)
     (λ b S ds t h k. (omega arith, λ z. refl))
     (λ S o d ds t h k. (omega arith, λ z. absurd (omega (arith, cost-due (S .n) s (pending S s) o d (k .0) (k .1) h))))
-    (λ b S o d ds t r R f h k. bounded-next b _ _ t r (rw (deliver-pending S s o R) (cost-accepted (S .n) s _ o d)) (f h k))
+    (λ b S o d ds t r R f h k. bounded-next b _ _ t r (rw (deliver-pending E S s o R) (cost-accepted (S .n) s _ o d)) (f h k))
     (λ b S o d ds t r z f h k. bounded-next b _ _ t r (cost-refused (S .n) s (pending S s) o d (k .0) (k .1) h) (f h (turn-fair (S .n) s (suc o) d)))
 
 -- ## The bounds
 
-drained-bounded : (S : State) (s b : ℕ) → s < S .n → Bounded b (pending S s + (S .n - 1) * (pending S s + 1)) 0 (drained S s b)
+drained-bounded : (E : Engine) (S : State) (s b : ℕ) → s < S .n → Bounded b (pending S s + (S .n - 1) * (pending S s + 1)) 0 (drained E S s b)
 unfolding drained
-drained-bounded S s b h =
-    let p = passes-bounded s b S (turn (S .n) s 0 false) [] 0 h (turn-fair (S .n) s 0 false) in
+drained-bounded E S s b h =
+    let p = passes-bounded E s b S (turn (S .n) s 0 false) [] 0 h (turn-fair (S .n) s 0 false) in
     let e : (S .n - 1) * (pending S s + 1) ≡ (S .n - 1) * pending S s + (S .n - 1) = rw (add-one (pending S s)) (mul-suc (S .n - 1) (pending S s)) in
     let most = turn-cost (S .n) s (pending S s) 0 false in
     let start = others-start (S .n) s in
@@ -150,7 +151,7 @@ drained-bounded S s b h =
 
 pub tries-bounded : TriesBounded
 unfolding drain
-tries-bounded S s b h = omega (arith, drained-bounded S s b h .0)
+tries-bounded E S s b h = omega (arith, drained-bounded E S s b h .0)
 
 pub pending-bounded : PendingBounded
 unfolding pending
@@ -159,7 +160,7 @@ pending-bounded S D s h =
 
 pub budget-enough : BudgetEnough
 unfolding drain
-budget-enough S D s b h l =
+budget-enough E S D s b h l =
     let p = pending-bounded S D s h in
-    drained-bounded S s b h .1
+    drained-bounded E S s b h .1
     (omega (arith, mul-le-mul {n₁ = S .n - 1} {m₁ = pending S s + 1} {n₂ = 7} {m₂ = 113} (omega (arith, D .sites .1)) (omega arith)))

@@ -1,3 +1,4 @@
 pub mod Theorems
 pub mod Touches
 pub mod Looks
+pub mod Agreement

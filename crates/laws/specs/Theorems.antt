@@ -8,6 +8,7 @@ use lib.ListN.{length}
 use Rattle.clock.specs.Map.{bit}
 use Rattle.layout.specs.State.{State}
 use Rattle.rules.specs.Sound.{sound, Sound}
+use Rattle.rules.specs.Engine.{Engine}
 use Rattle.rules.specs.Steps.{Numbers, refused, waiting}
 use Rattle.rules.specs.Refusals.{order, Refusals, listed, follows, missing}
 use Rattle.rules.specs.Drain.{drained, drain}
@@ -21,15 +22,15 @@ SoundTested = (S : State) → (sound S ≡ true) ↔ Sound S
 
 -- "Every accepted call leaves a sound table": no call but open is accepted on another
 abbrev pub AcceptedSound : Type 0
-AcceptedSound = (S : State) (c : Call) → run S c .answer .code ≡ 0 → Sound (run S c .after)
+AcceptedSound = (E : Engine) (S : State) (c : Call) → run E S c .answer .code ≡ 0 → Sound (run E S c .after)
 
 -- ".. and so does a drain that answers 11", and every refusal
 abbrev pub KeepsSound : Type 0
-KeepsSound = (S : State) (c : Call) → Sound S → Sound (run S c .after)
+KeepsSound = (E : Engine) (S : State) (c : Call) → Sound S → Sound (run E S c .after)
 
 -- "The table keeps all bytes, except under 11"
 abbrev pub RefusedKeeps : Type 0
-RefusedKeeps = (S : State) (c : Call) → run S c .answer .code ≢ 0 → run S c .answer .code ≢ 11 → run S c .after ≡ S
+RefusedKeeps = (E : Engine) (S : State) (c : Call) → run E S c .answer .code ≢ 0 → run E S c .answer .code ≢ 11 → run E S c .after ≡ S
 
 -- ## "given exactly when"
 
@@ -64,46 +65,46 @@ FollowsOrder = (t : List ℕ) (c : Call) → follows (listed (asks t c)) order �
 
 -- every code but 0 and 11 is answered exactly when it is given
 abbrev pub GivenExactly : Type 0
-GivenExactly = (S : State) (c : Call) (e : ℕ) → e ≢ 0 → e ≢ 11 → (run S c .answer .code ≡ e) ↔ Given (refusals S c) e
+GivenExactly = (E : Engine) (S : State) (c : Call) (e : ℕ) → e ≢ 0 → e ≢ 11 → (run E S c .answer .code ≡ e) ↔ Given (refusals S c) e
 
 -- a drain with a budget that is always enough makes these tries
-abbrev pub needed : State → (s : ℕ) → ℕ
-needed S s = drain S s 903 .answer .value
+abbrev pub needed : Engine → State → (s : ℕ) → ℕ
+needed E S s = drain E S s 903 .answer .value
 
 -- the budget, where the call has one, is enough; or it is spent when a try is due
-abbrev pub Enough : State → Call → Type 0
-Enough S (Open n k) = Unit {0}
-Enough S (Put s x v) = Unit {0}
-Enough S (Get s x) = Unit {0}
-Enough S (Deliver s o) = Unit {0}
-Enough S (Drain s b) = needed S s ≤ b
-Enough S (Cold s now T m) = Unit {0}
-Enough S (Touch s x now u r) = Unit {0}
-Enough S (Look s x) = Unit {0}
-Enough S (Adopt s x o c) = Unit {0}
+abbrev pub Enough : Engine → State → Call → Type 0
+Enough E S (Open n k) = Unit {0}
+Enough E S (Put s x v) = Unit {0}
+Enough E S (Get s x) = Unit {0}
+Enough E S (Deliver s o) = Unit {0}
+Enough E S (Drain s b) = needed E S s ≤ b
+Enough E S (Cold s now T m) = Unit {0}
+Enough E S (Touch s x now u r) = Unit {0}
+Enough E S (Look s x) = Unit {0}
+Enough E S (Adopt s x o c) = Unit {0}
 
-abbrev pub Spent : State → Call → Type 0
-Spent S (Open n k) = ⊥
-Spent S (Put s x v) = ⊥
-Spent S (Get s x) = ⊥
-Spent S (Deliver s o) = ⊥
-Spent S (Drain s b) = b < needed S s
-Spent S (Cold s now T m) = ⊥
-Spent S (Touch s x now u r) = ⊥
-Spent S (Look s x) = ⊥
-Spent S (Adopt s x o c) = ⊥
+abbrev pub Spent : Engine → State → Call → Type 0
+Spent E S (Open n k) = ⊥
+Spent E S (Put s x v) = ⊥
+Spent E S (Get s x) = ⊥
+Spent E S (Deliver s o) = ⊥
+Spent E S (Drain s b) = b < needed E S s
+Spent E S (Cold s now T m) = ⊥
+Spent E S (Touch s x now u r) = ⊥
+Spent E S (Look s x) = ⊥
+Spent E S (Adopt s x o c) = ⊥
 
 -- 0 is answered exactly when no condition holds and the budget is enough
 abbrev pub AcceptedExactly : Type 0
-AcceptedExactly = (S : State) (c : Call) → (run S c .answer .code ≡ 0) ↔ (Clear (refusals S c) × Enough S c)
+AcceptedExactly = (E : Engine) (S : State) (c : Call) → (run E S c .answer .code ≡ 0) ↔ (Clear (refusals S c) × Enough E S c)
 
 -- 11: "drain stopped by its budget"
 abbrev pub SpentExactly : Type 0
-SpentExactly = (S : State) (c : Call) → (run S c .answer .code ≡ 11) ↔ (Clear (refusals S c) × Spent S c)
+SpentExactly = (E : Engine) (S : State) (c : Call) → (run E S c .answer .code ≡ 11) ↔ (Clear (refusals S c) × Spent E S c)
 
 -- "In every refused answer the other numbers are 0, except for 10 and 11"
 abbrev pub RefusedZeros : Type 0
-RefusedZeros = (S : State) (c : Call) (e : ℕ) → e ≢ 0 → e ≢ 10 → e ≢ 11 → run S c .answer .code ≡ e → run S c .answer ≡ refused e
+RefusedZeros = (E : Engine) (S : State) (c : Call) (e : ℕ) → e ≢ 0 → e ≢ 10 → e ≢ 11 → run E S c .answer .code ≡ e → run E S c .answer ≡ refused e
 
 -- 10: "site and clock name the lowest failing column and its number in the update's vector";
 -- the value names all: its bits are those of the failing columns, and none is above the eight
@@ -117,7 +118,7 @@ pub record LowestMissing (S : State) (s o : ℕ) (a : Numbers) : Type 0 where
   pub others : a .key ≡ 0
 
 abbrev pub MissingNamed : Type 0
-MissingNamed = (S : State) (s o : ℕ) → run S (Deliver s o) .answer .code ≡ 10 → LowestMissing S s o (run S (Deliver s o) .answer)
+MissingNamed = (E : Engine) (S : State) (s o : ℕ) → run E S (Deliver s o) .answer .code ≡ 10 → LowestMissing S s o (run E S (Deliver s o) .answer)
 
 -- ## Drain
 
@@ -131,30 +132,30 @@ unfoldable pub pending : State → (s : ℕ) → ℕ
 pending S s = sum (S .n) (λ o. S .applied o o - S .applied s o)
 
 -- accepted deliveries to s that lead from S to a state, with their answers, the newest first
-pub data Delivers (s : ℕ) (S : State) : List Numbers → State → Type 0 where
-  start : Delivers s S [] S
-  one-more : {made : List Numbers} {R : State} → Delivers s S made R → (o : ℕ) → run R (Deliver s o) .answer .code ≡ 0
-      → Delivers s S (run R (Deliver s o) .answer ∷ made) (run R (Deliver s o) .after)
+pub data Delivers (E : Engine) (s : ℕ) (S : State) : List Numbers → State → Type 0 where
+  start : Delivers E s S [] S
+  one-more : {made : List Numbers} {R : State} → Delivers E s S made R → (o : ℕ) → run E R (Deliver s o) .answer .code ≡ 0
+      → Delivers E s S (run E R (Deliver s o) .answer ∷ made) (run E R (Deliver s o) .after)
 
 -- a drain is its deliveries, and "its answer holds the deliveries made"
 abbrev pub DrainDelivers : Type 0
-DrainDelivers = (S : State) (s b : ℕ) → Delivers s S (drained S s b .made) (drain S s b .after) × (drain S s b .answer .clock ≡ length (drained S s b .made))
+DrainDelivers = (E : Engine) (S : State) (s b : ℕ) → Delivers E s S (drained E S s b .made) (drain E S s b .after) × (drain E S s b .answer .clock ≡ length (drained E S s b .made))
 
 -- "the deliveries made, which is the rise in the sum of the applied row of s", over eight columns or over the n in use
 abbrev pub DrainRises : Type 0
-DrainRises = (S : State) (s b m : ℕ) → S .n ≤ m → sum m (drain S s b .after .applied s) ≡ sum m (S .applied s) + drain S s b .answer .clock
+DrainRises = (E : Engine) (S : State) (s b m : ℕ) → S .n ≤ m → sum m (drain E S s b .after .applied s) ≡ sum m (S .applied s) + drain E S s b .answer .clock
 
 -- "It ends after a pass that delivered nothing": then every delivery is refused
 abbrev pub DrainEnds : Type 0
-DrainEnds = (S : State) (s b : ℕ) → drain S s b .answer .code ≡ 0 → (o : ℕ) → run (drain S s b .after) (Deliver s o) .answer .code ≢ 0
+DrainEnds = (E : Engine) (S : State) (s b : ℕ) → drain E S s b .answer .code ≡ 0 → (o : ℕ) → run E (drain E S s b .after) (Deliver s o) .answer .code ≢ 0
 
 -- "When a try is due and the budget is spent it stops with 11"
 abbrev pub TriesWithin : Type 0
-TriesWithin = (S : State) (s b : ℕ) → (drain S s b .answer .value ≤ b) × (drain S s b .answer .code ≡ 11 → drain S s b .answer .value ≡ b)
+TriesWithin = (E : Engine) (S : State) (s b : ℕ) → (drain E S s b .answer .value ≤ b) × (drain E S s b .answer .code ≡ 11 → drain E S s b .answer .value ≡ b)
 
 -- "With P updates undelivered at the start there are at most P + (n - 1)(P + 1) tries"
 abbrev pub TriesBounded : Type 0
-TriesBounded = (S : State) (s b : ℕ) → s < S .n → drain S s b .answer .value ≤ pending S s + (S .n - 1) * (pending S s + 1)
+TriesBounded = (E : Engine) (S : State) (s b : ℕ) → s < S .n → drain E S s b .answer .value ≤ pending S s + (S .n - 1) * (pending S s + 1)
 
 -- "P is at most 112"
 abbrev pub PendingBounded : Type 0
@@ -162,8 +163,8 @@ PendingBounded = (S : State) → Sound S → (s : ℕ) → s < S .n → pending 
 
 -- "so a budget of 903 is always enough"
 abbrev pub BudgetEnough : Type 0
-BudgetEnough = (S : State) → Sound S → (s b : ℕ) → s < S .n → 903 ≤ b → drain S s b .answer .code ≡ 0
+BudgetEnough = (E : Engine) (S : State) → Sound S → (s b : ℕ) → s < S .n → 903 ≤ b → drain E S s b .answer .code ≡ 0
 
 -- with a smaller budget the deliveries are the first of those with a larger one
 abbrev pub DrainPrefix : Type 0
-DrainPrefix = (S : State) (s b b′ : ℕ) → b ≤ b′ → (more : List Numbers) × (drained S s b′ .made ≡ more ++ drained S s b .made)
+DrainPrefix = (E : Engine) (S : State) (s b b′ : ℕ) → b ≤ b′ → (more : List Numbers) × (drained E S s b′ .made ≡ more ++ drained E S s b .made)

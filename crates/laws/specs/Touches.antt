@@ -8,6 +8,7 @@ use lib.ListN.{length, getD, replicate}
 use Rattle.clock.specs.Lists.{_∈_}
 use Rattle.layout.specs.State.{State, Entry}
 use Rattle.rules.specs.Touch.{hourOf, toucherOf, tierOf, touchOf, wellFormed, keepsHour, touched, recorded, age, Kind, never, malformed, fresh, cold, ahead, aged, kind, keysOf, coldList}
+use Rattle.rules.specs.Engine.{Engine}
 use Rattle.rules.specs.Steps.{done}
 use Rattle.rules.specs.Calls.{Put, Get, Cold, Touch, run}
 
@@ -63,7 +64,7 @@ ListFilled =
 -- "The answer's key, site and clock count keys listed, clocks ahead and malformed values"
 abbrev pub ColdAnswers : Type 0
 ColdAnswers =
-    (S : State) (s now T m : ℕ) → let r = run S (Cold s now T m) in r .answer .code ≡ 0
+    (E : Engine) (S : State) (s now T m : ℕ) → let r = run E S (Cold s now T m) in r .answer .code ≡ 0
     → r .answer ≡ done (length (keysOf cold S s now T)) (length (keysOf ahead S s now T)) (length (keysOf malformed S s now T)) 0
 
 -- ## Touch
@@ -75,15 +76,15 @@ TouchedSays =
     (wellFormed v ≡ true) × (toucherOf v ≡ u) × (tierOf v ≡ r) × ((u ≡ 1) ⊎ (u ≡ 2) → hourOf v ≡ hourOf old) × (u ≢ 1 → u ≢ 2 → hourOf v ≡ now)
 
 -- "Touch gets a key and puts a record": where it is accepted it is its get and then its put, which are accepted too
-pub record IsBoth (S : State) (s x now u r : ℕ) : Type 0 where
-  pub gets : run S (Get s x) .answer .code ≡ 0
-  pub puts : run S (Touch s x now u r) ≡ run (run S (Get s x) .after) (Put s x (touched (S .store s x .value) now u r))
+pub record IsBoth (E : Engine) (S : State) (s x now u r : ℕ) : Type 0 where
+  pub gets : run E S (Get s x) .answer .code ≡ 0
+  pub puts : run E S (Touch s x now u r) ≡ run E (run E S (Get s x) .after) (Put s x (touched (S .store s x .value) now u r))
 
 abbrev pub TouchIsBoth : Type 0
-TouchIsBoth = (S : State) (s x now u r : ℕ) → run S (Touch s x now u r) .answer .code ≡ 0 → IsBoth S s x now u r
+TouchIsBoth = (E : Engine) (S : State) (s x now u r : ℕ) → run E S (Touch s x now u r) .answer .code ≡ 0 → IsBoth E S s x now u r
 
 -- a touch by the backup scan or by migration changes no key's coldness at its site, at any hour and threshold
 abbrev pub ScanKeepsColdness : Type 0
 ScanKeepsColdness =
-    (S : State) (s x now u r : ℕ) → keepsHour u ≡ true → (hour T y : ℕ) → let A = run S (Touch s x now u r) .after in
+    (E : Engine) (S : State) (s x now u r : ℕ) → keepsHour u ≡ true → (hour T y : ℕ) → let A = run E S (Touch s x now u r) .after in
     kind hour T (A .store s y) ≡ kind hour T (S .store s y)

@@ -6,6 +6,7 @@ use Prim.Native.Nat.{ℕ, _+_}
 use Rattle.clock.specs.Map.{_⟨_≔_⟩, _⟨_⟩⟨_≔_⟩}
 use Rattle.clock.specs.Vector.{Vector, zeros}
 use Rattle.layout.specs.State.{State, Entry, Update, withApplied, withDepends, withStore, withUpdates}
+use Rattle.rules.specs.Engine.{ours}
 use Rattle.rules.specs.Steps.{refused, done, opened}
 use Rattle.rules.specs.Refusals.{order, follows}
 use Rattle.rules.specs.Calls.{Open, Put, Get, Deliver, Drain}
@@ -93,7 +94,7 @@ bounds =
     (5 ∷ 0 ∷ 0 ∷ 4 ∷ eight (λ j. 3) ++ in-entry (opened 2 2 .store 0 1) ++ eight ((λ j. 3) ⟨ 0 ≔ 4 ⟩) ++ eight ((λ j. 3) ⟨ 0 ≔ 4 ⟩) ++ eight (λ j. 7))
     ∷ []
 
-pub at-bounds : Computed bounds
+pub at-bounds : Computed ours bounds
 unfolding rules bounds
 at-bounds =
     (refl, (refl, (refl, (refl, (refl, (refl, (refl, (refl, (refl, (refl, (refl, (refl, (refl, (refl, (refl, (refl, (refl, (refl, (refl, (refl, (refl, (refl, (refl, (refl, (refl, (refl, tt))))))))))))))))))))))))))

@@ -7,6 +7,7 @@ use lib.ListN.{length}
 use Rattle.clock.specs.Map.{if_then_else_}
 use Rattle.layout.specs.State.{State, table, stateOf, bytesOf}
 use Rattle.rules.specs.Touch.{coldList}
+use Rattle.rules.specs.Engine.{Engine, ours}
 use Rattle.rules.specs.Steps.{Numbers, Outcome, refused, opened, put, get, look, deliver, touch, cold}
 use Rattle.rules.specs.Refusals.{Refusals, first, open-refusals, put-refusals, get-refusals, adopt-refusals, deliver-refusals, site-refusals, touch-refusals, cold-words, touch-words, undelivered, unless}
 use Rattle.rules.specs.Drain.{drain}
@@ -64,19 +65,19 @@ beside S (Look s x) = refused
 beside S (Adopt s x o c) = refused
 
 -- the step where no condition holds
-unfoldable pub step : State → Call → Outcome
-step S (Open n k) = record { answer = refused 0; after = opened n k }
-step S (Put s x v) = put S s x v
-step S (Get s x) = get S s x
-step S (Deliver s o) = deliver S s o
-step S (Drain s b) = drain S s b
-step S (Cold s now T m) = cold S s now T
-step S (Touch s x now u r) = touch S s x now u r
-step S (Look s x) = look S s x
-step S (Adopt s x o c) = get S s x
+unfoldable pub step : Engine → State → Call → Outcome
+step E S (Open n k) = record { answer = refused 0; after = opened n k }
+step E S (Put s x v) = put E S s x v
+step E S (Get s x) = get E S s x
+step E S (Deliver s o) = deliver E S s o
+step E S (Drain s b) = drain E S s b
+step E S (Cold s now T m) = cold S s now T
+step E S (Touch s x now u r) = touch E S s x now u r
+step E S (Look s x) = look S s x
+step E S (Adopt s x o c) = get E S s x
 
-unfoldable pub run : State → Call → Outcome
-run S c = unless (refusals S c) (beside S c) S (step S c)
+unfoldable pub run : Engine → State → Call → Outcome
+run E S c = unless (refusals S c) (beside S c) S (step E S c)
 
 -- 1: the table buffer is not 15,620 bytes
 unfoldable pub asks : List ℕ → Call → Refusals
@@ -88,9 +89,9 @@ pub record Served : Type 0 where
   pub bytes : List ℕ
 
 -- the step if no condition holds; else the refusal, and the table keeps all bytes
-unfoldable pub serve : List ℕ → Call → Served
-serve t c =
-    let r = step (stateOf t) c in
+unfoldable pub serve : Engine → List ℕ → Call → Served
+serve E t c =
+    let r = step E (stateOf t) c in
     if eqb (first (asks t c)) 0 then record { answer = r .answer; bytes = bytesOf (r .after) }
     else record { answer = beside (stateOf t) c (first (asks t c)); bytes = t }
 
@@ -103,5 +104,5 @@ pub record Listed : Type 0 where
 -- "The list goes .. to a lent 64-byte buffer"; "A refusal keeps that buffer"
 unfoldable pub serve-list : (t list : List ℕ) → (s now threshold : ℕ) → Listed
 serve-list t l s now T =
-    let w = serve t (Cold s now T (length l)) in
+    let w = serve ours t (Cold s now T (length l)) in
     record { answer = w .answer; bytes = w .bytes; list = if eqb (w .answer .code) 0 then coldList (stateOf t) s now T else l }

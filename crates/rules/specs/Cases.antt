@@ -8,6 +8,7 @@ use lib.ListN.{replicate}
 use Rattle.layout.specs.State.{State, bytesOf}
 use Rattle.rules.specs.Sound.{sound, header, counted, blank, written, smallest, lowest, holds, retains}
 use Rattle.rules.specs.Touch.{kind, chosen, coldList}
+use Rattle.rules.specs.Engine.{Engine, short, ours}
 use Rattle.rules.specs.Steps.{Numbers, refused, done, opened, put, learn, get, look, deliver, touch, cold}
 use Rattle.rules.specs.Refusals.{open-refusals, full, put-refusals, get-refusals, adopt-refusals, deliver-refusals, site-refusals, touch-refusals}
 use Rattle.rules.specs.Drain.{try, passes, drained, drain}
@@ -27,14 +28,14 @@ pub record Case : Type 0 where
   pub view : State → State → List ℕ
   pub seen : List ℕ
 
-abbrev pub answered : State → List Call → List Numbers
-answered S [] = []
-answered S (c ∷ cs) = run S c .answer ∷ answered (run S c .after) cs
+abbrev pub answered : Engine → State → List Call → List Numbers
+answered E S [] = []
+answered E S (c ∷ cs) = run E S c .answer ∷ answered E (run E S c .after) cs
 
-abbrev pub sight : (State → State → List ℕ) → State → List Call → List ℕ
-sight f S [] = []
-sight f S (c ∷ []) = f S (run S c .after)
-sight f S (c ∷ d ∷ cs) = sight f (run S c .after) (d ∷ cs)
+abbrev pub sight : Engine → (State → State → List ℕ) → State → List Call → List ℕ
+sight E f S [] = []
+sight E f S (c ∷ []) = f S (run E S c .after)
+sight E f S (c ∷ d ∷ cs) = sight E f (run E S c .after) (d ∷ cs)
 
 abbrev pub case : ℕ → State → List Call → List Numbers → Case
 case i S cs rs = record { number = i; table = S; calls = cs; answers = rs; view = λ S T. []; seen = [] }
@@ -87,17 +88,22 @@ cases =
     (done 1 0 1 7 ∷ done 1 0 1 7 ∷ done 1 0 1 7 ∷ done 2 1 1 9 ∷ ten 0 1 1 ∷ done 0 0 2 6 ∷ done 1 0 1 7 ∷ [])
     ∷ []
 
-abbrev pub computed : Case → List Numbers × List ℕ
-computed c = (answered (c .table) (c .calls), sight (c .view) (c .table) (c .calls))
+abbrev pub computed : Engine → Case → List Numbers × List ℕ
+computed E c = (answered E (c .table) (c .calls), sight E (c .view) (c .table) (c .calls))
 
 abbrev pub expected : Case → List Numbers × List ℕ
 expected c = (c .answers, c .seen)
 
 -- each case answers as it says, and shows what it says
-abbrev pub Computed : List Case → Type 0
-Computed [] = Unit {0}
-Computed (c ∷ cs) = (computed c ≡ expected c) × Computed cs
+abbrev pub Computed : Engine → List Case → Type 0
+Computed E [] = Unit {0}
+Computed E (c ∷ cs) = (computed E c ≡ expected c) × Computed E cs
 
-pub starred : Computed cases
+pub starred : Computed ours cases
 unfolding rules bytesOf cases
 starred = (refl, (refl, (refl, (refl, (refl, (refl, (refl, (refl, (refl, (refl, (refl, (refl, (refl, (refl, tt))))))))))))))
+
+-- figure 15 answers the same
+pub starred-short : Computed short cases
+unfolding rules bytesOf cases
+starred-short = (refl, (refl, (refl, (refl, (refl, (refl, (refl, (refl, (refl, (refl, (refl, (refl, (refl, (refl, tt))))))))))))))

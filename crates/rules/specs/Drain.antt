@@ -6,12 +6,13 @@ use lib.Dec.{eqb, ltb}
 use lib.ListN.{length}
 use Rattle.clock.specs.Map.{if_then_else_}
 use Rattle.layout.specs.State.{State}
+use Rattle.rules.specs.Engine.{Engine}
 use Rattle.rules.specs.Steps.{Numbers, Outcome, deliver}
 use Rattle.rules.specs.Refusals.{deliver-refusals, undelivered, unless}
 
 -- one delivery attempted
-unfoldable pub try : State → (s o : ℕ) → Outcome
-try S s o = unless (deliver-refusals S s o) (undelivered S s o) S (deliver S s o)
+unfoldable pub try : Engine → State → (s o : ℕ) → Outcome
+try E S s o = unless (deliver-refusals S s o) (undelivered S s o) S (deliver E S s o)
 
 -- a try is due at an origin, in a pass that has delivered or not; or the drain is at its end
 pub data Turn : Type 0 where
@@ -37,21 +38,21 @@ pub record Drained : Type 0 where
   pub after : State
 
 -- a try again at an origin until one is refused; 11 when a try is due and the budget is spent
-unfoldable pub passes : (budget : ℕ) → State → (s : ℕ) → Turn → List Numbers → (tries : ℕ) → Drained
-passes zero S s end ds t = record { code = 0; made = ds; tries = t; after = S }
-passes (suc b) S s end ds t = record { code = 0; made = ds; tries = t; after = S }
-passes zero S s (due o d) ds t = record { code = 11; made = ds; tries = t; after = S }
-passes (suc b) S s (due o d) ds t =
-    elim (eqb (try S s o .answer .code) 0) [
-      | true ↦ passes b (try S s o .after) s (due o true) (try S s o .answer ∷ ds) (suc t)
-      | false ↦ passes b S s (turn (S .n) s (suc o) d) ds (suc t)
+unfoldable pub passes : Engine → (budget : ℕ) → State → (s : ℕ) → Turn → List Numbers → (tries : ℕ) → Drained
+passes E zero S s end ds t = record { code = 0; made = ds; tries = t; after = S }
+passes E (suc b) S s end ds t = record { code = 0; made = ds; tries = t; after = S }
+passes E zero S s (due o d) ds t = record { code = 11; made = ds; tries = t; after = S }
+passes E (suc b) S s (due o d) ds t =
+    elim (eqb (try E S s o .answer .code) 0) [
+      | true ↦ passes E b (try E S s o .after) s (due o true) (try E S s o .answer ∷ ds) (suc t)
+      | false ↦ passes E b S s (turn (S .n) s (suc o) d) ds (suc t)
     ]
 
-unfoldable pub drained : State → (s budget : ℕ) → Drained
-drained S s b = passes b S s (turn (S .n) s 0 false) [] 0
+unfoldable pub drained : Engine → State → (s budget : ℕ) → Drained
+drained E S s b = passes E b S s (turn (S .n) s 0 false) [] 0
 
 -- drain answers code, deliveries, tries
-unfoldable pub drain : State → (s budget : ℕ) → Outcome
-drain S s b =
-    let d = drained S s b in
+unfoldable pub drain : Engine → State → (s budget : ℕ) → Outcome
+drain E S s b =
+    let d = drained E S s b in
     record { answer = record { code = d .code; key = 0; site = 0; clock = length (d .made); value = d .tries }; after = d .after }

@@ -1,5 +1,6 @@
 pub mod Sound
 pub mod Touch
+pub mod Engine
 pub mod Steps
 pub mod Refusals
 pub mod Drain
@@ -9,3 +10,4 @@ pub mod Bounds
 pub mod SoundCases
 pub mod TouchCases
 pub mod LookCases
+pub mod ShortCases

@@ -2,6 +2,7 @@
 use mathlib.Core.Path.{refl}
 use mathlib.Core.List.{List, [], _∷_, _++_}
 use Rattle.layout.specs.State.{bytesOf}
+use Rattle.rules.specs.Engine.{ours}
 use Rattle.rules.specs.Steps.{Numbers, refused, done, opened}
 use Rattle.rules.specs.Calls.{Call, Put, Get, Deliver, Look, Adopt}
 use Rattle.rules.specs.Cases.{rules, Case, case, case-of, unchanged, ten, Computed}
@@ -35,6 +36,6 @@ looks =
     (refused 4 ∷ refused 6 ∷ refused 4 ∷ refused 4 ∷ refused 6 ∷ refused 15 ∷ [])
     ∷ []
 
-pub looked-so : Computed looks
+pub looked-so : Computed ours looks
 unfolding rules bytesOf looks
 looked-so = (refl, (refl, (refl, (refl, (refl, (refl, (refl, (refl, tt))))))))

@@ -6,6 +6,7 @@ use Prim.Native.Nat.{ℕ, suc, _+_, _-_, _%_}
 use Rattle.clock.specs.Map.{_⟨_≔_⟩, _⟨_⟩⟨_≔_⟩}
 use Rattle.clock.specs.Vector.{Vector, zeros}
 use Rattle.layout.specs.State.{State, Update, withApplied, withStore, withUpdates}
+use Rattle.rules.specs.Engine.{ours}
 use Rattle.rules.specs.Steps.{opened}
 use Rattle.rules.specs.Calls.{Get, run}
 use Rattle.rules.specs.Cases.{rules}
@@ -88,7 +89,7 @@ tables held = (keeps 0 1 18 1, 0) ∷ (keeps 0 1 2 1, 2) ∷ (keeps 0 1 19 1, 2)
 tables key = (keeps 0 1 18 1, 0) ∷ (keeps 0 1 18 2, 2) ∷ (keeps 0 0 17 99, 0) ∷ []
 
 abbrev pub answered : State × ℕ → ℕ
-answered t = run (t .0) (Get 0 0) .answer .code
+answered t = run ours (t .0) (Get 0 0) .answer .code
 
 abbrev pub expected : State × ℕ → ℕ
 expected t = t .1

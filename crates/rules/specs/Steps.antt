@@ -1,11 +1,11 @@
--- What an accepted open, put, get, look, delivery, touch and cold list do to the table, and what they answer. Assumes nothing.
+-- What an accepted open, put, get, look, delivery, touch and cold list do to the table of an engine, and what they answer. Assumes nothing.
 use Prim.Native.Nat.{ℕ, suc}
 use lib.Dec.{eqb}
 use lib.ListN.{length}
 use Rattle.clock.specs.Map.{if_then_else_, _⟨_≔_⟩, _⟨_⟩⟨_≔_⟩}
-use Rattle.clock.specs.Vector.{zeros, join, note}
 use Rattle.layout.specs.State.{State, Update, allZero, withCounts, withApplied, withDepends, withStore, withUpdates}
 use Rattle.rules.specs.Sound.{place}
+use Rattle.rules.specs.Engine.{Engine}
 use Rattle.rules.specs.Touch as kinds
 use Rattle.rules.specs.Touch.{touched, keysOf}
 
@@ -37,28 +37,28 @@ opened n k = withCounts allZero n k
 abbrev pub next : State → (s o : ℕ) → ℕ
 next S s o = suc (S .applied s o)
 
-unfoldable pub put : State → (s x v : ℕ) → Outcome
-put S s x v =
+unfoldable pub put : Engine → State → (s x v : ℕ) → Outcome
+put E S s x v =
     let c = next S s s in
-    let U = withUpdates S (S .updates ⟨ s ⟩⟨ place c ≔ record { value = v; key = x; zero = 0; clock = c; depends = S .depends s } ⟩) in
-    let E = withStore U (S .store ⟨ s ⟩⟨ x ≔ record { value = v; origin = s; zero = 0; clock = c; depends = zeros } ⟩) in
-    let A = withApplied E (S .applied ⟨ s ⟩⟨ s ≔ c ⟩) in
-    record { answer = done x s c v; after = withDepends A (S .depends ⟨ s ≔ note (S .depends s) s c ⟩) }
+    let d = E .sent (S .depends s) (S .store s x) in
+    let U = withUpdates S (S .updates ⟨ s ⟩⟨ place c ≔ record { value = v; key = x; zero = 0; clock = c; depends = d } ⟩) in
+    let N = withStore U (S .store ⟨ s ⟩⟨ x ≔ record { value = v; origin = s; zero = 0; clock = c; depends = E .own d } ⟩) in
+    let A = withApplied N (S .applied ⟨ s ⟩⟨ s ≔ c ⟩) in
+    record { answer = done x s c v; after = withDepends A (S .depends ⟨ s ≔ E .left d s c ⟩) }
 
--- the dependency row of s with the entry's vector and then its pair, if its clock is not 0
-unfoldable pub learn : State → (s x : ℕ) → State
-learn S s x =
+-- the dependency row of s with what the engine takes on of the entry, if its clock is not 0
+unfoldable pub learn : Engine → State → (s x : ℕ) → State
+learn E S s x =
     let e = S .store s x in
-    if eqb (e .clock) 0 then S
-    else withDepends S (S .depends ⟨ s ≔ note (join (S .depends s) (e .depends)) (e .origin) (e .clock) ⟩)
+    if eqb (e .clock) 0 then S else withDepends S (S .depends ⟨ s ≔ E .learned (S .depends s) e ⟩)
 
 -- what a get, a look and an adopt answer: "all three answer alike"
 abbrev pub seen : State → (s x : ℕ) → Numbers
 seen S s x = let e = S .store s x in done x (e .origin) (e .clock) (e .value)
 
 -- also an adopt, "which takes on the dependence" of the entry that the caller names
-unfoldable pub get : State → (s x : ℕ) → Outcome
-get S s x = record { answer = seen S s x; after = learn S s x }
+unfoldable pub get : Engine → State → (s x : ℕ) → Outcome
+get E S s x = record { answer = seen S s x; after = learn E S s x }
 
 -- "look, which answers as get and changes nothing"
 unfoldable pub look : State → (s x : ℕ) → Outcome
@@ -68,16 +68,18 @@ look S s x = record { answer = seen S s x; after = S }
 abbrev pub waiting : State → (s o : ℕ) → Update
 waiting S s o = S .updates o (place (next S s o))
 
-unfoldable pub deliver : State → (s o : ℕ) → Outcome
-deliver S s o =
+-- where the update does not replace the entry, only the applied count rises
+unfoldable pub deliver : Engine → State → (s o : ℕ) → Outcome
+deliver E S s o =
     let c = next S s o in
     let u = waiting S s o in
-    let E = withStore S (S .store ⟨ s ⟩⟨ u .key ≔ record { value = u .value; origin = o; zero = 0; clock = c; depends = u .depends } ⟩) in
-    record { answer = done (u .key) o c (u .value); after = withApplied E (S .applied ⟨ s ⟩⟨ o ≔ c ⟩) }
+    let M = S .store ⟨ s ⟩⟨ u .key ≔ record { value = u .value; origin = o; zero = 0; clock = c; depends = u .depends } ⟩ in
+    let N = withStore S (if E .replaces u o (S .store s (u .key)) then M else S .store) in
+    record { answer = done (u .key) o c (u .value); after = withApplied N (S .applied ⟨ s ⟩⟨ o ≔ c ⟩) }
 
 -- "Touch gets a key and puts a record of the given toucher and tier"; "it answers as its put"
-unfoldable pub touch : State → (s x now toucher tier : ℕ) → Outcome
-touch S s x now u r = put (learn S s x) s x (touched (S .store s x .value) now u r)
+unfoldable pub touch : Engine → State → (s x now toucher tier : ℕ) → Outcome
+touch E S s x now u r = put E (learn E S s x) s x (touched (S .store s x .value) now u r)
 
 -- "The answer's key, site and clock count keys listed, clocks ahead and malformed values"; "The cold list uses look"
 unfoldable pub cold : State → (s now threshold : ℕ) → Outcome

@@ -5,6 +5,7 @@ use Prim.Native.Nat.{ℕ, _+_}
 use lib.ListN.{replicate}
 use Rattle.layout.specs.State.{State}
 use Rattle.rules.specs.Touch.{hourOf, toucherOf, tierOf, touchOf, wellFormed, fresh, cold, ahead, kindOf, tag, coldList}
+use Rattle.rules.specs.Engine.{ours}
 use Rattle.rules.specs.Steps.{Numbers, refused, done, opened}
 use Rattle.rules.specs.Refusals.{first}
 use Rattle.rules.specs.Calls.{Call, Put, Deliver, Cold, Touch, asks, run}
@@ -83,12 +84,12 @@ touches =
     (λ S T. row S 2 ++ row T 2) (0 ∷ 0 ∷ 0 ∷ 0 ∷ [])
     ∷ []
 
-pub touched-so : Computed touches
+pub touched-so : Computed ours touches
 unfolding rules touches
 touched-so = (refl, (refl, (refl, (refl, (refl, (refl, (refl, (refl, (refl, (refl, tt))))))))))
 
 -- keys 1 and 3 cold: the list names them, ascending, and zeros behind them
-pub listed-so : coldList (run (run (opened 1 4) (Put 0 3 (touchOf 9 0 0)) .after) (Put 0 1 (touchOf 8 0 0)) .after) 0 100 24 ≡ 1 ∷ 3 ∷ replicate 62 0
+pub listed-so : coldList (run ours (run ours (opened 1 4) (Put 0 3 (touchOf 9 0 0)) .after) (Put 0 1 (touchOf 8 0 0)) .after) 0 100 24 ≡ 1 ∷ 3 ∷ replicate 62 0
 unfolding rules
 listed-so = refl
 

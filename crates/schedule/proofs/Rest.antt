@@ -9,6 +9,7 @@ use lib.ListN.{length, take, drop, length-take}
 use lib.Seq.{take-all, take-take, take-add, drop-at, length-take-le, getD-take}
 use Rattle.clock.proofs.Maps.{choice, le?}
 use Rattle.layout.specs.State.{State, allZero}
+use Rattle.rules.specs.Engine.{ours}
 use Rattle.rules.specs.Steps.{Outcome}
 use Rattle.rules.specs.Calls.{Open, run}
 use Rattle.schedule.specs.Step.{stepOf, played}
@@ -46,7 +47,7 @@ rest-ignored l =
     ⊎-elim
     (λ (h : 2 ≤ length l).
     listing-long (take 65534 l) (rw (length-take 65534 l) (omega arith))
-    ∙ (λ i. after-open (run allZero (Open (getD-take 65534 l 0 0 (omega arith) i) (getD-take 65534 l 1 0 (omega arith) i))) (drop-take 2 65532 l h i))
+    ∙ (λ i. after-open (run ours allZero (Open (getD-take 65534 l 0 0 (omega arith) i) (getD-take 65534 l 1 0 (omega arith) i))) (drop-take 2 65532 l h i))
     ∙ opened-rest _ (drop 2 l)
     ∙ sym (listing-long l h))
     (λ (h : length l < 2). ap listing (take-all 65534 l (omega arith)))

@@ -6,6 +6,7 @@ use lib.Dec.{eqb, ltb}
 use lib.ListN.{length, getD, take, drop}
 use Rattle.clock.specs.Map.{if_then_else_}
 use Rattle.layout.specs.State.{State, allZero}
+use Rattle.rules.specs.Engine.{ours}
 use Rattle.rules.specs.Steps.{Outcome}
 use Rattle.rules.specs.Calls.{Open, run}
 use Rattle.schedule.specs.Step.{stepBytes, stepOf, played}
@@ -38,4 +39,4 @@ after-open o l = line 0 (o .answer) ++ (if eqb (o .answer .code) 0 then listed m
 
 -- "A schedule is n (1 byte), k (1 byte), then steps"; "A header cut short prints only the `cut` line"
 unfoldable pub listing : List ℕ → List ℕ
-listing l = if ltb (length l) 2 then cut-line (length l) else after-open (run allZero (Open (getD l 0 0) (getD l 1 0))) (drop 2 l)
+listing l = if ltb (length l) 2 then cut-line (length l) else after-open (run ours allZero (Open (getD l 0 0) (getD l 1 0))) (drop 2 l)

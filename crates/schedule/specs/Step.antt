@@ -7,6 +7,7 @@ use lib.Dec.{eqb}
 use Rattle.clock.specs.Map.{if_then_else_}
 use Rattle.layout.specs.Codec.{numberOf}
 use Rattle.layout.specs.State.{State}
+use Rattle.rules.specs.Engine.{ours}
 use Rattle.rules.specs.Steps.{Outcome, refused}
 use Rattle.rules.specs.Calls.{Call, Put, Get, Deliver, Drain, run, Served, serve}
 use Rattle.schedule.specs.declared.Step.{Step}
@@ -43,11 +44,11 @@ unused-zero p = by-operation p (zero (p .origin) 0 0) (zero (p .origin) 0 (p .va
 
 -- ".. else 12", which "comes before all others"; the table keeps all bytes
 unfoldable pub played : State → Step → Outcome
-played S p = if unused-zero p then run S (callOf p) else record { answer = refused 12; after = S }
+played S p = if unused-zero p then run ours S (callOf p) else record { answer = refused 12; after = S }
 
 -- the same on the bytes of a lent table, of any length
 unfoldable pub played-on : List ℕ → Step → Served
-played-on t p = if unused-zero p then serve t (callOf p) else record { answer = refused 12; bytes = t }
+played-on t p = if unused-zero p then serve ours t (callOf p) else record { answer = refused 12; bytes = t }
 
 -- the promise of `play`: on the bytes t a step answers and leaves that
 abbrev pub Promise : List ℕ → Step → Served → Type 0

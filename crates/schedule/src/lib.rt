@@ -5,6 +5,7 @@ ghost use Prim.Native.Nat.{_+_, _^_, _≤_, _<_};
 ghost use lib.ListN.{length, drop};
 ghost use Rattle.layout.specs.Codec.{numberOf};
 ghost use Rattle.layout.specs.State.{stateOf, table};
+ghost use Rattle.rules.specs.Engine.{ours};
 ghost use Rattle.rules.specs.Steps.{refused};
 ghost use Rattle.rules.specs.Calls.{serve};
 ghost use Rattle.table.specs.Answers.{numbersOf, served};
@@ -16,6 +17,7 @@ ghost use Rattle.numbers.specs.Five.{fiveOf};
 use layout::Table;
 use numbers::Five;
 use table::Answer;
+use table::Engine;
 
 // The most that a run takes and prints: a header of 2 bytes and 10,922 steps; a line for open and for
 // each step, and the last line. A line is six numbers of at most ten digits, each with a byte behind it.
@@ -99,13 +101,13 @@ fn unused_zero(p: Step) -> bool
 }
 
 fn call(t: &mut [u8], p: Step) -> Answer
-    ensures { λ r. ⌜ served r (now (t .exit)) ≡ serve (now (t .entry)) (callOf p) ⌝ }
+    ensures { λ r. ⌜ served r (now (t .exit)) ≡ serve ours (now (t .entry)) (callOf p) ⌝ }
 {
     let operation = p.operation;
     let site = p.site as usize;
     match operation {
-        0 => table::put(t, site, p.key as usize, p.value),
-        1 => table::get(t, site, p.key as usize),
+        0 => table::put(t, site, p.key as usize, p.value, Engine::Long),
+        1 => table::get(t, site, p.key as usize, Engine::Long),
         2 => table::deliver(t, site, p.origin as usize),
         _ => drain::drain(t, site, Schedule::BUDGET),
     }

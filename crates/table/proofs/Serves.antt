@@ -7,6 +7,7 @@ use lib.ListN.{length}
 use Rattle.layout.specs.State.{State, stateOf, bytesOf, table}
 use Rattle.layout.proofs.TableTrips.{bytes-back}
 use Rattle.layout.specs.Ranges.{Bytes}
+use Rattle.rules.specs.Engine.{Engine}
 use Rattle.rules.specs.Steps.{Numbers, refused}
 use Rattle.rules.specs.Refusals.{first}
 use Rattle.rules.specs.Calls.{Call, Open, Put, Get, Deliver, Drain, Cold, Touch, Look, Adopt, beside, step, run, asks, serve}
@@ -41,19 +42,19 @@ besides S (Touch s x now u w) r = refl
 besides S (Look s x) r = refl
 besides S (Adopt s x o c) r = refl
 
-module _ (t : List ℕ) (c : Call) where
-  pub serves-refused : (r : Refusal) → codeOf r ≡ first (asks t c) → codeOf r ≢ 0 → served (Refused r) t ≡ serve t c
+module _ (E : Engine) (t : List ℕ) (c : Call) where
+  pub serves-refused : (r : Refusal) → codeOf r ≡ first (asks t c) → codeOf r ≢ 0 → served (Refused r) t ≡ serve E t c
   serves-refused r e h =
       sym
-      (serve-refused t c (λ z. h (e ∙ z))
+      (serve-refused E t c (λ z. h (e ∙ z))
       ∙ (λ i. record { answer = beside (stateOf t) c (sym e i); bytes = t })
       ∙ (λ i. record { answer = besides (stateOf t) c r i; bytes = t }))
 
   module _ (r : Numbers) (t′ : List ℕ) (same : length t′ ≡ length t) (b : Bytes t′) where
-    pub serves-run : length t ≡ table .width → Bytes t → r ≡ run (stateOf t) c .answer → stateOf t′ ≡ run (stateOf t) c .after → record { answer = r; bytes = t′ } ≡ serve t c
-    serves-run h b₀ e f = sym (serve-runs t c t′ h b₀ (same ∙ h) b f ∙ (λ i. record { answer = sym e i; bytes = t′ }))
+    pub serves-run : length t ≡ table .width → Bytes t → r ≡ run E (stateOf t) c .answer → stateOf t′ ≡ run E (stateOf t) c .after → record { answer = r; bytes = t′ } ≡ serve E t c
+    serves-run h b₀ e f = sym (serve-runs E t c t′ h b₀ (same ∙ h) b f ∙ (λ i. record { answer = sym e i; bytes = t′ }))
 
-    pub serves-step : first (asks t c) ≡ 0 → r ≡ step (stateOf t) c .answer → stateOf t′ ≡ step (stateOf t) c .after → record { answer = r; bytes = t′ } ≡ serve t c
+    pub serves-step : first (asks t c) ≡ 0 → r ≡ step E (stateOf t) c .answer → stateOf t′ ≡ step E (stateOf t) c .after → record { answer = r; bytes = t′ } ≡ serve E t c
     serves-step z e f =
         let h = same ∙ asks-clear t c z .0 in
-        (λ i. record { answer = e i; bytes = (sym (bytes-back t′ h b) ∙ ap bytesOf f) i }) ∙ sym (serve-step t c z)
+        (λ i. record { answer = e i; bytes = (sym (bytes-back t′ h b) ∙ ap bytesOf f) i }) ∙ sym (serve-step E t c z)

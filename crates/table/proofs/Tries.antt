@@ -15,6 +15,7 @@ use Rattle.layout.specs.Ranges.{Bytes}
 use Rattle.layout.specs.declared.Record.{Record}
 use Rattle.layout.specs.Records.{updateOf}
 use Rattle.layout.proofs.TableTrips.{state-fits}
+use Rattle.rules.specs.Engine.{ours}
 use Rattle.rules.specs.Sound.{Sound, Retained}
 use Rattle.rules.specs.Steps.{refused, next, waiting, deliver}
 use Rattle.rules.specs.Refusals.{missing, cause, deliver-refusals, undelivered}
@@ -24,22 +25,22 @@ use Rattle.laws.proofs.Ready.{deliver-asks}
 use Rattle.table.specs.Asked.{Attempts, DeliverFits}
 
 module _ (S : State) (s o : ℕ) (D : Sound S) (hs : s < S .n) (ho : o < S .n) (hd : s ≢ o) where
-  pub try-nine : S .applied s o ≡ S .applied o o → try S s o ≡ record { answer = refused 9; after = S }
+  pub try-nine : S .applied s o ≡ S .applied o o → try ours S s o ≡ record { answer = refused 9; after = S }
   unfolding try
   try-nine e =
-      unless-first (deliver-refusals S s o) (undelivered S s o) S (deliver S s o) 9 (deliver-asks S s o D hs ho hd ∙ rw (eq-eqb (S .applied s o) (S .applied o o) e)) (omega arith)
+      unless-first (deliver-refusals S s o) (undelivered S s o) S (deliver ours S s o) 9 (deliver-asks S s o D hs ho hd ∙ rw (eq-eqb (S .applied s o) (S .applied o o) e)) (omega arith)
 
   module _ (behind : S .applied s o ≢ S .applied o o) where
-    pub try-ten : any 8 (missing S s o) ≡ true → try S s o ≡ record { answer = cause S s o; after = S }
+    pub try-ten : any 8 (missing S s o) ≡ true → try ours S s o ≡ record { answer = cause S s o; after = S }
     unfolding try
     try-ten e =
-        unless-first (deliver-refusals S s o) (undelivered S s o) S (deliver S s o) 10
+        unless-first (deliver-refusals S s o) (undelivered S s o) S (deliver ours S s o) 10
         (deliver-asks S s o D hs ho hd ∙ rw (ne-eqb (S .applied s o) (S .applied o o) behind, e)) (omega arith)
 
-    pub try-done : any 8 (missing S s o) ≡ false → try S s o ≡ deliver S s o
+    pub try-done : any 8 (missing S s o) ≡ false → try ours S s o ≡ deliver ours S s o
     unfolding try
     try-done e =
-        unless-none (deliver-refusals S s o) (undelivered S s o) S (deliver S s o)
+        unless-none (deliver-refusals S s o) (undelivered S s o) S (deliver ours S s o)
         (deliver-asks S s o D hs ho hd ∙ rw (ne-eqb (S .applied s o) (S .applied o o) behind, e))
 
 -- two numbers that code has read differ in the table

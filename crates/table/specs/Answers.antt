@@ -2,10 +2,14 @@
 use mathlib.Core.Path.{_≡_}
 use mathlib.Core.List.{List}
 use Prim.Native.Nat.{ℕ}
+use Rattle.rules.specs.Engine as rules
+use Rattle.rules.specs.Engine.{ours}
 use Rattle.rules.specs.Steps.{Numbers, refused, done}
 use Rattle.rules.specs.Calls.{Call, Served, serve}
 use Rattle.table.specs.declared.Refusal.{Refusal}
 use Rattle.table.specs.declared.Refusal.the-variants.{Nothing, Size, Unsound, Counts, Site, Same, Key, Spent, Full, NoNext, NoRecord, OutOfRange, Changed}
+use Rattle.table.specs.declared.Engine.{Engine}
+use Rattle.table.specs.declared.Engine.the-variants.{Long, Short}
 use Rattle.table.specs.declared.Answer.{Answer}
 use Rattle.table.specs.declared.Answer.the-variants.{Done, Missing, Drained, Stopped, Refused}
 
@@ -24,6 +28,10 @@ codeOf NoRecord = 13
 codeOf OutOfRange = 14
 codeOf Changed = 15
 
+abbrev pub engineOf : Engine → rules.Engine
+engineOf Long = rules.long
+engineOf Short = rules.short
+
 abbrev pub numbersOf : Answer → Numbers
 numbersOf (Done x s c v) = done x s c v
 numbersOf (Missing j c b) = record { code = 10; key = 0; site = j; clock = c; value = b }
@@ -35,6 +43,9 @@ numbersOf (Refused r) = refused (codeOf r)
 abbrev pub served : Answer → List ℕ → Served
 served r t = record { answer = numbersOf r; bytes = t }
 
--- the promise of every call: on the bytes t it answers and leaves what `serve` says
+-- the promise of every call: on the bytes t it answers and leaves what `serve` says, with our engine or with the one that is given
 abbrev pub Promise : List ℕ → Call → Served → Type 0
-Promise t c w = w ≡ serve t c
+Promise t c w = w ≡ serve ours t c
+
+abbrev pub PromiseBy : Engine → List ℕ → Call → Served → Type 0
+PromiseBy e t c w = w ≡ serve (engineOf e) t c

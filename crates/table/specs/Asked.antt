@@ -6,9 +6,9 @@ use mathlib.Core.Logic.{_≢_}
 use Prim.Native.Nat.{ℕ, _+_, _<_}
 use lib.Dec.{eqb, leb}
 use lib.ListN.{length}
-use Rattle.clock.specs.Map.{any}
+use Rattle.clock.specs.Map.{any, _⟨_≔_⟩}
 use Rattle.clock.specs.Vector.{Vector}
-use Rattle.layout.specs.State.{Entry, stateOf, lastClock, table}
+use Rattle.layout.specs.State.{State, Entry, stateOf, lastClock, table, withDepends}
 use Rattle.layout.specs.declared.Record.{Record}
 use Rattle.layout.specs.Records.{updateOf}
 use Rattle.rules.specs.Sound.{sound, Sound}
@@ -38,6 +38,10 @@ roomIn a n s = (7, eqb (a s s) lastClock) ∷ (8, fullIn a n s) ∷ []
 
 abbrev pub deliverIn : List ℕ → (s o : ℕ) → Refusals
 deliverIn t s o = (1, not (eqb (length t) (table .width))) ∷ (2, not (sound (stateOf t))) ∷ sitesIn (stateOf t .n) s o
+
+-- the dependency row of s is v, and nothing else changed
+abbrev pub Row : State → (s : ℕ) → Vector → State → Type 0
+Row S s v T = T ≡ withDepends S (S .depends ⟨ s ≔ v ⟩)
 
 -- ## What the steps rely on
 

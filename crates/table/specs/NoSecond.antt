@@ -2,8 +2,10 @@
 use mathlib.Core.Path.{_≡_, refl, sym, _∙_}
 use mathlib.Core.List.{List}
 use Prim.Native.Nat.{ℕ}
+use Rattle.rules.specs.Engine.{ours}
 use Rattle.rules.specs.Calls.{Call, Open, Put, Get, Deliver, Drain, Touch, Look, Adopt, Served, serve}
-use Rattle.table.specs.Answers.{Promise}
+use Rattle.table.specs.declared.Engine.{Engine}
+use Rattle.table.specs.Answers.{engineOf, Promise, PromiseBy}
 
 abbrev pub NoSecond : Call → Type 0
 NoSecond c = (t : List ℕ) (w w′ : Served) → Promise t c w → Promise t c w′ → w ≡ w′
@@ -12,16 +14,26 @@ abbrev pub One : Call → Type 0
 One c = (t : List ℕ) → (w : Served) × Promise t c w
 
 no-second : (c : Call) → NoSecond c × One c
-no-second c = ((λ t w w′ p q. p ∙ sym q), λ t. (serve t c, refl))
+no-second c = ((λ t w w′ p q. p ∙ sym q), λ t. (serve ours t c, refl))
+
+-- of the calls that take their engine
+abbrev pub NoSecondBy : Engine → Call → Type 0
+NoSecondBy e c = (t : List ℕ) (w w′ : Served) → PromiseBy e t c w → PromiseBy e t c w′ → w ≡ w′
+
+abbrev pub OneBy : Engine → Call → Type 0
+OneBy e c = (t : List ℕ) → (w : Served) × PromiseBy e t c w
+
+no-second-by : (e : Engine) (c : Call) → NoSecondBy e c × OneBy e c
+no-second-by e c = ((λ t w w′ p q. p ∙ sym q), λ t. (serve (engineOf e) t c, refl))
 
 pub open-no-second : (n k : ℕ) → NoSecond (Open n k) × One (Open n k)
 open-no-second n k = no-second (Open n k)
 
-pub put-no-second : (s x v : ℕ) → NoSecond (Put s x v) × One (Put s x v)
-put-no-second s x v = no-second (Put s x v)
+pub put-no-second : (e : Engine) (s x v : ℕ) → NoSecondBy e (Put s x v) × OneBy e (Put s x v)
+put-no-second e s x v = no-second-by e (Put s x v)
 
-pub get-no-second : (s x : ℕ) → NoSecond (Get s x) × One (Get s x)
-get-no-second s x = no-second (Get s x)
+pub get-no-second : (e : Engine) (s x : ℕ) → NoSecondBy e (Get s x) × OneBy e (Get s x)
+get-no-second e s x = no-second-by e (Get s x)
 
 pub deliver-no-second : (s o : ℕ) → NoSecond (Deliver s o) × One (Deliver s o)
 deliver-no-second s o = no-second (Deliver s o)
@@ -29,11 +41,11 @@ deliver-no-second s o = no-second (Deliver s o)
 pub drain-no-second : (s b : ℕ) → NoSecond (Drain s b) × One (Drain s b)
 drain-no-second s b = no-second (Drain s b)
 
-pub touch-no-second : (s x hour u r : ℕ) → NoSecond (Touch s x hour u r) × One (Touch s x hour u r)
-touch-no-second s x hour u r = no-second (Touch s x hour u r)
+pub touch-no-second : (e : Engine) (s x hour u r : ℕ) → NoSecondBy e (Touch s x hour u r) × OneBy e (Touch s x hour u r)
+touch-no-second e s x hour u r = no-second-by e (Touch s x hour u r)
 
 pub look-no-second : (s x : ℕ) → NoSecond (Look s x) × One (Look s x)
 look-no-second s x = no-second (Look s x)
 
-pub adopt-no-second : (s x o c : ℕ) → NoSecond (Adopt s x o c) × One (Adopt s x o c)
-adopt-no-second s x o c = no-second (Adopt s x o c)
+pub adopt-no-second : (e : Engine) (s x o c : ℕ) → NoSecondBy e (Adopt s x o c) × OneBy e (Adopt s x o c)
+adopt-no-second e s x o c = no-second-by e (Adopt s x o c)

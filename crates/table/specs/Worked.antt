@@ -4,6 +4,7 @@ use mathlib.Core.List.{List, [], _∷_, _++_}
 use Prim.Native.Nat.{ℕ, _+_, _*_}
 use lib.ListN.{length, take, drop, replicate}
 use Rattle.layout.specs.State.{State, bytesOf}
+use Rattle.rules.specs.Engine.{ours}
 use Rattle.rules.specs.Steps.{opened}
 use Rattle.rules.specs.Calls.{Call, Put, Get, Deliver, run}
 use Rattle.rules.specs.Cases.{rules}
@@ -11,7 +12,7 @@ use Rattle.rules.specs.Cases.{rules}
 -- the table that calls leave
 abbrev pub after : State → List Call → State
 after S [] = S
-after S (c ∷ cs) = after (run S c .after) cs
+after S (c ∷ cs) = after (run ours S c .after) cs
 
 -- 0 puts five times; 1 applies four of them, gets the fourth and puts three times; 2 applies all of that and puts twice; 0 applies three puts
 pub calls : List Call

@@ -4,12 +4,13 @@ ghost use Prim.Native.Nat.{_+_, _≤_, _<_};
 ghost use lib.ListN.{length};
 ghost use Rattle.layout.specs.State.{stateOf, lastClock, table};
 ghost use Rattle.layout.specs.Records.{entryOf};
+ghost use Rattle.rules.specs.Engine.{ours};
 ghost use Rattle.rules.specs.Steps.{next, put, learn, deliver};
 ghost use Rattle.rules.specs.Refusals.{first};
 ghost use Rattle.rules.specs.Drain.{try};
 ghost use Rattle.rules.specs.Calls.{Open, Put, Get, Deliver, Drain, asks};
-ghost use Rattle.table.specs.Answers.{codeOf, numbersOf, served, Promise};
-ghost use Rattle.table.specs.Asked.{tableIn, namesIn, sitesIn, fullIn, roomIn, deliverIn, PutFits, GetFits, DeliverFits, Attempts};
+ghost use Rattle.table.specs.Answers.{codeOf, engineOf, numbersOf, served, Promise, PromiseBy};
+ghost use Rattle.table.specs.Asked.{tableIn, namesIn, sitesIn, fullIn, roomIn, deliverIn, Row, PutFits, GetFits, DeliverFits, Attempts};
 use clock::Clock;
 use clock::Compared;
 use layout::Record;
@@ -32,6 +33,12 @@ pub enum Refusal {
     NoRecord,
     OutOfRange,
     Changed,
+}
+
+// How a site keeps what it depends on: in full, or as a short list.
+pub enum Engine {
+    Long,
+    Short,
 }
 
 // What a call answers.
@@ -229,10 +236,26 @@ fn after(c: u16) -> u16
     c + 1
 }
 
+// The dependency row after the put (s, c): the pair joins the row, or is all that is left.
+fn leave_row(t: &mut [u8], s: usize, c: u16, engine: Engine)
+    requires { ⌜ (length (now t) ≡ table .width) × (s < 8) ⌝ }
+    ensures { λ _. ⌜ Row (stateOf (now (t .entry))) s (engineOf engine .left (stateOf (now (t .entry)) .depends s) s c) (stateOf (now (t .exit))) ⌝ }
+{
+    match engine {
+        Engine::Long => {
+            layout::set_depends_at(t, s, s, clock::greater(layout::depends_at(t, s, s), c));
+        }
+        Engine::Short => {
+            let zero = Clock::zero();
+            layout::set_depends(t, s, zero.note(s, c));
+        }
+    }
+}
+
 // The update at its place, the entry, the applied count and the dependency row.
-pub fn put_step(t: &mut [u8], s: usize, x: usize, v: u32) -> u16
+pub fn put_step(t: &mut [u8], s: usize, x: usize, v: u32, engine: Engine) -> u16
     requires { ⌜ PutFits (now t) s x ⌝ }
-    ensures { λ r. ⌜ (r ≡ next (stateOf (now (t .entry))) s s) × (stateOf (now (t .exit)) ≡ put (stateOf (now (t .entry))) s x v .after) ⌝ }
+    ensures { λ r. ⌜ (r ≡ next (stateOf (now (t .entry))) s s) × (stateOf (now (t .exit)) ≡ put (engineOf engine) (stateOf (now (t .entry))) s x v .after) ⌝ }
 {
     let c = after(layout::applied_at(t, s, s));
     let p = layout::wide(c - 1) % Table::PLACES;
@@ -264,17 +287,17 @@ pub fn put_step(t: &mut [u8], s: usize, x: usize, v: u32) -> u16
         },
     );
     layout::set_applied(t, s, s, c);
-    layout::set_depends_at(t, s, s, clock::greater(layout::depends_at(t, s, s), c));
+    leave_row(t, s, c, engine);
     c
 }
 
-pub fn put(t: &mut [u8], s: usize, x: usize, v: u32) -> Answer
-    ensures { λ r. ⌜ Promise (now (t .entry)) (Put s x v) (served r (now (t .exit))) ⌝ }
+pub fn put(t: &mut [u8], s: usize, x: usize, v: u32, engine: Engine) -> Answer
+    ensures { λ r. ⌜ PromiseBy engine (now (t .entry)) (Put s x v) (served r (now (t .exit))) ⌝ }
 {
     let why = put_refusal(t, s, x);
     match why {
         Refusal::Nothing => {
-            let c = put_step(t, s, x, v);
+            let c = put_step(t, s, x, v, engine);
             Answer::Done {
                 key: x as u8,
                 site: s as u8,
@@ -286,31 +309,51 @@ pub fn put(t: &mut [u8], s: usize, x: usize, v: u32) -> Answer
     }
 }
 
-// The entry; if its clock is not 0, the dependency row joined with its vector and then with its pair.
-pub fn get_step(t: &mut [u8], s: usize, x: usize) -> Record
+// The dependency row joined with the entry's vector and then with its pair, or with the pair alone.
+fn learn_row(t: &mut [u8], s: usize, e: Record, engine: Engine)
+    requires { ⌜ (length (now t) ≡ table .width) × (s < 8) × (e .tag < 8) ⌝ }
+    ensures { λ _. ⌜ Row (stateOf (now (t .entry))) s (engineOf engine .learned (stateOf (now (t .entry)) .depends s) (entryOf e)) (stateOf (now (t .exit))) ⌝ }
+{
+    let o = layout::wide_byte(e.tag);
+    match engine {
+        Engine::Long => {
+            let d = layout::depends(t, s, s + 1);
+            let row = Clock { col: d[s] };
+            let depends = e.depends;
+            let noted = row.join(depends).note(o, e.clock);
+            layout::set_depends(t, s, noted);
+        }
+        Engine::Short => {
+            layout::set_depends_at(
+                t,
+                s,
+                o,
+                clock::greater(layout::depends_at(t, s, o), e.clock),
+            );
+        }
+    }
+}
+
+// The entry; if its clock is not 0, the dependency row takes it on.
+pub fn get_step(t: &mut [u8], s: usize, x: usize, engine: Engine) -> Record
     requires { ⌜ GetFits (now t) s x ⌝ }
-    ensures { λ r. ⌜ (entryOf r ≡ stateOf (now (t .entry)) .store s x) × (stateOf (now (t .exit)) ≡ learn (stateOf (now (t .entry))) s x) ⌝ }
+    ensures { λ r. ⌜ (entryOf r ≡ stateOf (now (t .entry)) .store s x) × (stateOf (now (t .exit)) ≡ learn (engineOf engine) (stateOf (now (t .entry))) s x) ⌝ }
 {
     let e = layout::entry_at(t, s, x);
-    let c = e.clock;
-    if c == 0 {
+    if e.clock == 0 {
         return e;
     }
-    let d = layout::depends(t, s, s + 1);
-    let row = Clock { col: d[s] };
-    let depends = e.depends;
-    let noted = row.join(depends).note(layout::wide_byte(e.tag), c);
-    layout::set_depends(t, s, noted);
+    learn_row(t, s, e, engine);
     e
 }
 
-pub fn get(t: &mut [u8], s: usize, x: usize) -> Answer
-    ensures { λ r. ⌜ Promise (now (t .entry)) (Get s x) (served r (now (t .exit))) ⌝ }
+pub fn get(t: &mut [u8], s: usize, x: usize, engine: Engine) -> Answer
+    ensures { λ r. ⌜ PromiseBy engine (now (t .entry)) (Get s x) (served r (now (t .exit))) ⌝ }
 {
     let why = get_refusal(t, s, x);
     match why {
         Refusal::Nothing => {
-            let e = get_step(t, s, x);
+            let e = get_step(t, s, x, engine);
             Answer::Done {
                 key: x as u8,
                 site: e.tag,
@@ -325,7 +368,7 @@ pub fn get(t: &mut [u8], s: usize, x: usize) -> Answer
 // The entry of the update's key at s, and the applied count.
 fn deliver_step(t: &mut [u8], s: usize, o: usize, u: Record, c: u16)
     requires { ⌜ DeliverFits (now t) s o u c ⌝ }
-    ensures { λ _. ⌜ stateOf (now (t .exit)) ≡ deliver (stateOf (now (t .entry))) s o .after ⌝ }
+    ensures { λ _. ⌜ stateOf (now (t .exit)) ≡ deliver ours (stateOf (now (t .entry))) s o .after ⌝ }
 {
     let depends = u.depends;
     let e = Record {
@@ -342,7 +385,7 @@ fn deliver_step(t: &mut [u8], s: usize, o: usize, u: Record, c: u16)
 // One delivery attempted, on a sound table and two of its sites: what is left to ask is 9 and 10.
 pub fn attempt(t: &mut [u8], s: usize, o: usize) -> Answer
     requires { ⌜ Attempts (now t) s o ⌝ }
-    ensures { λ r. ⌜ (numbersOf r ≡ try (stateOf (now (t .entry))) s o .answer) × (stateOf (now (t .exit)) ≡ try (stateOf (now (t .entry))) s o .after) ⌝ }
+    ensures { λ r. ⌜ (numbersOf r ≡ try ours (stateOf (now (t .entry))) s o .answer) × (stateOf (now (t .exit)) ≡ try ours (stateOf (now (t .entry))) s o .after) ⌝ }
 {
     let here = layout::applied_at(t, s, o);
     if here == layout::applied_at(t, o, o) {

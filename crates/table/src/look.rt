@@ -5,9 +5,10 @@ ghost use lib.ListN.{length};
 ghost use Rattle.layout.specs.State.{stateOf, table};
 ghost use Rattle.rules.specs.Refusals.{first};
 ghost use Rattle.rules.specs.Calls.{Look, Adopt, asks};
-ghost use Rattle.table.specs.Answers.{codeOf, served, Promise};
+ghost use Rattle.table.specs.Answers.{codeOf, served, Promise, PromiseBy};
 ghost use Rattle.table.specs.Asked.{EntryFits, entryIn, namedIn};
 use crate::Answer;
+use crate::Engine;
 use crate::Refusal;
 
 pub fn look(t: &[u8], s: usize, x: usize) -> Answer
@@ -82,13 +83,13 @@ fn adopt_refusal(t: &[u8], s: usize, x: usize, o: usize, c: usize) -> Refusal
 }
 
 // Of an entry that is as named: its step is get's, and so is its answer.
-pub fn adopt(t: &mut [u8], s: usize, x: usize, o: usize, c: usize) -> Answer
-    ensures { λ r. ⌜ Promise (now (t .entry)) (Adopt s x o c) (served r (now (t .exit))) ⌝ }
+pub fn adopt(t: &mut [u8], s: usize, x: usize, o: usize, c: usize, engine: Engine) -> Answer
+    ensures { λ r. ⌜ PromiseBy engine (now (t .entry)) (Adopt s x o c) (served r (now (t .exit))) ⌝ }
 {
     let why = adopt_refusal(t, s, x, o, c);
     match why {
         Refusal::Nothing => {
-            let e = crate::get_step(t, s, x);
+            let e = crate::get_step(t, s, x, engine);
             Answer::Done {
                 key: x as u8,
                 site: e.tag,

@@ -5,6 +5,7 @@ use Prim.Native.Nat.{ℕ, _<_}
 use native.Mathlib.Omega.{arith}
 use lib.ListN.{length}
 use Rattle.layout.specs.State.{State, stateOf, table}
+use Rattle.rules.specs.Engine.{Engine}
 use Rattle.rules.specs.Steps.{learn}
 use Rattle.rules.specs.Refusals.{first}
 use Rattle.rules.specs.Calls.{Touch, asks}
@@ -28,8 +29,8 @@ module _ (t : List ℕ) (s x hour u r : ℕ) (z : first (asks t (Touch s x hour 
   get-fits = let P = ready .put in codes.get-fits t s x size (record { sound = P .sound; site = P .site; key = P .key })
 
   -- the get leaves the counts
-  pub put-fits : (t′ : List ℕ) → length t′ ≡ length t → stateOf t′ ≡ learn (stateOf t) s x → PutFits t′ s x
-  put-fits t′ l e =
-      let p = learn-apart (stateOf t) s x in
+  pub put-fits : (E : Engine) (t′ : List ℕ) → length t′ ≡ length t → stateOf t′ ≡ learn E (stateOf t) s x → PutFits t′ s x
+  put-fits E t′ l e =
+      let p = learn-apart E (stateOf t) s x in
       let same : stateOf t′ .applied s s ≡ stateOf t .applied s s = ap (λ (S : State). S .applied s s) e ∙ ap (λ (S : State). S .applied s s) (p .1) in
       record { size = l ∙ size; site = small .0; key = small .1; clock = λ n. ready .put .clock (sym same ∙ n) }

@@ -5,10 +5,11 @@ ghost use Rattle.layout.specs.Records.{entryOf};
 ghost use Rattle.rules.specs.Touch.{hourOf, wellFormed, keepsHour, touchOf, touched};
 ghost use Rattle.rules.specs.Refusals.{first, touch-words};
 ghost use Rattle.rules.specs.Calls.{Touch, asks};
-ghost use Rattle.table.specs.Answers.{codeOf, served, Promise};
+ghost use Rattle.table.specs.Answers.{codeOf, served, PromiseBy};
 ghost use Rattle.touch.specs.Asked.{recordIn, touchIn};
 use layout::Record;
 use table::Answer;
+use table::Engine;
 use table::Refusal;
 
 // What the fields of a touch record are worth: hour (16 bits), toucher (3), tier (2), eleven zeros.
@@ -133,15 +134,23 @@ fn touch_refusal(t: &[u8], s: usize, x: usize, hour: usize, toucher: usize, tier
 }
 
 // Gets the key and puts its record; refused, it has not got it either.
-pub fn touch(t: &mut [u8], s: usize, x: usize, hour: usize, toucher: usize, tier: usize) -> Answer
-    ensures { λ r. ⌜ Promise (now (t .entry)) (Touch s x hour toucher tier) (served r (now (t .exit))) ⌝ }
+pub fn touch(
+    t: &mut [u8],
+    s: usize,
+    x: usize,
+    hour: usize,
+    toucher: usize,
+    tier: usize,
+    engine: Engine,
+) -> Answer
+    ensures { λ r. ⌜ PromiseBy engine (now (t .entry)) (Touch s x hour toucher tier) (served r (now (t .exit))) ⌝ }
 {
     let why = touch_refusal(t, s, x, hour, toucher, tier);
     match why {
         Refusal::Nothing => {
-            let e = table::get_step(t, s, x);
+            let e = table::get_step(t, s, x, engine);
             let v = touched(e.value, hour as u16, toucher, tier);
-            let c = table::put_step(t, s, x, v);
+            let c = table::put_step(t, s, x, v, engine);
             Answer::Done {
                 key: x as u8,
                 site: s as u8,

@@ -1,7 +1,7 @@
 //! A table, and its calls with their replies read as the five numbers. Each test uses its part.
 #![allow(dead_code)]
 
-use twin::{adopt, cold, deliver, drain, get, look, open, put, touch, LIST_BYTES, REPLY_BYTES, TABLE_BYTES};
+use twin::{adopt, cold, deliver, drain, get, look, open, put, short, touch, LIST_BYTES, REPLY_BYTES, TABLE_BYTES};
 
 #[derive(Clone)]
 pub struct Session {
@@ -57,6 +57,30 @@ impl Session {
 
     pub fn touch(&mut self, site: u64, key: u64, now: u64, toucher: u64, tier: u64) -> Numbers {
         self.call(|table, reply| touch(site, key, now, toucher, tier, table, reply))
+    }
+
+    pub fn short_put(&mut self, site: u64, key: u64, value: u32) -> Numbers {
+        self.call(|table, reply| short::put(site, key, value, table, reply))
+    }
+
+    pub fn short_get(&mut self, site: u64, key: u64) -> Numbers {
+        self.call(|table, reply| short::get(site, key, table, reply))
+    }
+
+    pub fn short_adopt(&mut self, site: u64, key: u64, origin: u64, clock: u64) -> Numbers {
+        self.call(|table, reply| short::adopt(site, key, origin, clock, table, reply))
+    }
+
+    pub fn short_deliver(&mut self, site: u64, origin: u64) -> Numbers {
+        self.call(|table, reply| short::deliver(site, origin, table, reply))
+    }
+
+    pub fn short_drain(&mut self, site: u64, budget: u64) -> Numbers {
+        self.call(|table, reply| short::drain(site, budget, table, reply))
+    }
+
+    pub fn short_touch(&mut self, site: u64, key: u64, now: u64, toucher: u64, tier: u64) -> Numbers {
+        self.call(|table, reply| short::touch(site, key, now, toucher, tier, table, reply))
     }
 
     pub fn cold(&mut self, site: u64, now: u64, threshold: u64) -> Numbers {

@@ -1,5 +1,6 @@
 use mathlib.Core.Path.{ap, _∙_}
 use Prim.Native.Nat.{ℕ, min}
+use Rattle.rules.specs.Engine.{ours}
 use Rattle.rules.specs.Calls.{Drain, serve}
 use Rattle.forkcanyon.specs.Host.{mostTries}
 use Rattle.forkcanyon.proofs.Hosts.{hosts-nothing, hosts-call}
@@ -10,7 +11,7 @@ use Rattle.forkcanyon.proofs.fc_drain.Tie as tie
 returns : tie.Need-returns
 returns c =
     let a = c .before .before .before .args in
-    hosts-nothing (a .table .now) (a .reply .now) (Drain (a .site) (min (a .budget) mostTries)) (c .if1 .taken)
+    hosts-nothing ours (a .table .now) (a .reply .now) (Drain (a .site) (min (a .budget) mostTries)) (c .if1 .taken)
 
 returns-2 : tie.Need-returns-2
 returns-2 c =
@@ -18,8 +19,8 @@ returns-2 c =
     let w = r .before .before .before .before .before in
     let tested = w .before .before .before in
     let a = tested .before .before .before .args in
-    hosts-call (a .table .now) (a .reply .now) (Drain (a .site) (min (a .budget) mostTries)) (w .drain .result) (r .before .numbers-of .result) (tested .if1 .left)
-    (w .drain .ensures ∙ ap (λ (b : ℕ). serve (a .table .now) (Drain (a .site) b)) (w .before .tries-allowed .ensures)) (r .before .numbers-of .ensures) (r .answer .ensures)
+    hosts-call ours (a .table .now) (a .reply .now) (Drain (a .site) (min (a .budget) mostTries)) (w .drain .result) (r .before .numbers-of .result) (tested .if1 .left)
+    (w .drain .ensures ∙ ap (λ (b : ℕ). serve ours (a .table .now) (Drain (a .site) b)) (w .before .tries-allowed .ensures)) (r .before .numbers-of .ensures) (r .answer .ensures)
 
 pub fc-drain-spec : {M : Type 1} → statement M
 fc-drain-spec =

@@ -3,7 +3,7 @@ use native.Mathlib.Omega.{arith}
 use Rattle.layout.specs.Ranges.{Bytes}
 use Rattle.rules.specs.Steps.{done, get}
 use Rattle.rules.specs.Calls.{Get, step}
-use Rattle.table.specs.Answers.{codeOf}
+use Rattle.table.specs.Answers.{codeOf, engineOf}
 use Rattle.table.proofs.Codes.{refusing, get-clear, get-fits}
 use Rattle.table.proofs.Serves.{serves-refused, serves-step}
 use borrow.Author.Needs.{needs}
@@ -23,7 +23,7 @@ returns c =
     let w = c .before .before .get-step in
     let asked = c .before .before .before .before .before .before in
     let a = asked .before .before .before .args in
-    serves-step (a .t .now) (Get (a .s) (a .x)) _ (w .last .0) (w .kept .0) (λ i. omega (arith, c .slice-known2 .given i))
+    serves-step (engineOf (a .engine)) (a .t .now) (Get (a .s) (a .x)) _ (w .last .0) (w .kept .0) (λ i. omega (arith, c .slice-known2 .given i))
     (sym (asked .get-refusal .ensures) ∙ ap codeOf (c .before .before .before .before .enum-told .given .1))
     (λ i. done (a .x) (w .ensures .0 i .origin) (w .ensures .0 i .clock) (w .ensures .0 i .value)) (w .ensures .1)
 
@@ -33,7 +33,7 @@ returns-2 c =
     let r = c .before .get-refusal in
     let known = c .before .before .before in
     let a = known .before .args in
-    serves-refused (a .t .now) (Get (a .s) (a .x)) (r .result) (r .ensures) (refusing (r .result) (c .match .keys2))
+    serves-refused (engineOf (a .engine)) (a .t .now) (Get (a .s) (a .x)) (r .result) (r .ensures) (refusing (r .result) (c .match .keys2))
 
 pub get-spec : {M : Type 1} → statement M
 get-spec =

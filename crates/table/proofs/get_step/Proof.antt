@@ -1,10 +1,8 @@
 use mathlib.Core.Path.{sym, ap, _∙_}
 use native.Mathlib.Omega.{arith}
-use Rattle.clock.specs.Map.{_⟨_≔_⟩}
-use Rattle.clock.specs.Vector as vectors
-use Rattle.layout.specs.State.{Entry, stateOf, withDepends}
+use Rattle.layout.specs.State.{Entry, stateOf}
 use Rattle.layout.specs.Records.{entryOf}
-use Rattle.layout.proofs.Places.{row-read}
+use Rattle.table.specs.Answers.{engineOf}
 use Rattle.table.proofs.Stores.{learn-none, learn-some}
 use borrow.Author.Needs.{needs}
 use Rattle.table.proofs.get_step.Statement.{statement}
@@ -12,33 +10,25 @@ use Rattle.table.proofs.get_step.Tie as tie
 
 returns : tie.Need-returns
 returns c =
-    let a = c .before .before .before .before .args in
-    let e = c .before .entry-at .ensures in
-    (e, learn-none (stateOf (a .t .now)) (a .s) (a .x) (sym (ap (λ (e : Entry). e .clock) e) ∙ c .if1 .taken))
+    let entry = c .before .before in
+    let a = entry .before .before .before .args in
+    let e = entry .entry-at .ensures in
+    (e, learn-none (stateOf (a .t .now)) (engineOf (a .engine)) (a .s) (a .x) (sym (ap (λ (e : Entry). e .clock) e) ∙ c .if1 .taken))
 
-note-requires : tie.Need-note-requires
-note-requires c κs =
-    let if1 = c .before .before .before .before .before .before in
-    let e = if1 .before .entry-at .ensures in
-    omega (arith, c .wide-byte .ensures .0, if1 .before .before .before .before .pre .origin, ap (λ (e : Entry). e .origin) e)
+learn-row-requires : tie.Need-learn-row-requires
+learn-row-requires c κs =
+    let entry = c .before .before .before in
+    let p = entry .before .before .before .pre in
+    (p .entry .size, p .entry .site, omega (arith, p .origin, ap (λ (e : Entry). e .origin) (entry .entry-at .ensures)))
 
 returns-2 : tie.Need-returns-2
 returns-2 c =
-    let note = c .before .before .before .before in
-    let join = note .before .before in
-    let row = join .before .before .before in
-    let if1 = row .before .before in
-    let entry = if1 .before .entry-at in
-    let start = if1 .before .before .before .before in
-    let S = stateOf (start .args .t .now) in
-    let s = start .args .s in
-    let er = row-read s (S .depends) (row .depends .ensures) in
-    let noted = note .note .ensures ∙ (λ i. vectors.note (join .join .ensures i) (note .before .wide-byte .ensures .0 i) (entry .result .clock)) in (
-      entry .ensures,
-      c .before .before .set-depends .ensures
-          ∙ (λ i. withDepends S (S .depends ⟨ s ≔ noted i ⟩))
-          ∙ learn-some S s (start .args .x) (entryOf (entry .result)) _ (entry .ensures) (if1 .if1 .left) er,
-    )
+    let learned = c .before .before in
+    let if1 = learned .before .before in
+    let entry = if1 .before .before in
+    let a = entry .before .before .before .args in
+    let e = entry .entry-at in
+    (e .ensures, learned .learn-row .ensures ∙ learn-some (stateOf (a .t .now)) (engineOf (a .engine)) (a .s) (a .x) (entryOf (e .result)) (e .ensures) (if1 .if1 .left))
 
 pub get-step-spec : {M : Type 1} → statement M
 get-step-spec =
@@ -47,13 +37,6 @@ get-step-spec =
     (λ c κs. search needs)  -- entry-at-requires
     (λ c. search needs)  -- same-length
     returns
-    (λ c. search needs)  -- add-depends
-    (λ c κs. search needs)  -- depends-requires
-    (λ c. search needs)  -- mul-t16
-    (λ c. search needs)  -- array-copy-out-t19
-    (λ c κs. search needs)  -- join-requires
-    (λ c κs. search needs)  -- wide-byte-requires
-    note-requires
-    (λ c κs. search needs)  -- set-depends-requires
+    learn-row-requires
     (λ c. search needs)  -- same-length-2
     returns-2)

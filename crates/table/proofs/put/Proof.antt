@@ -3,7 +3,7 @@ use native.Mathlib.Omega.{arith}
 use Rattle.layout.specs.Ranges.{Bytes}
 use Rattle.rules.specs.Steps.{done, put}
 use Rattle.rules.specs.Calls.{Put, refusals, step, asks}
-use Rattle.table.specs.Answers.{codeOf}
+use Rattle.table.specs.Answers.{codeOf, engineOf}
 use Rattle.table.proofs.Codes.{refusing, put-clear}
 use Rattle.table.proofs.Serves.{serves-refused, serves-step}
 use borrow.Author.Needs.{needs}
@@ -23,7 +23,7 @@ returns c =
     let w = c .before .before .put-step in
     let asked = c .before .before .before .before .before .before in
     let a = asked .before .before .before .args in
-    serves-step (a .t .now) (Put (a .s) (a .x) (a .v)) _ (w .last .0) (w .kept .0) (λ i. omega (arith, c .slice-known2 .given i))
+    serves-step (engineOf (a .engine)) (a .t .now) (Put (a .s) (a .x) (a .v)) _ (w .last .0) (w .kept .0) (λ i. omega (arith, c .slice-known2 .given i))
     (sym (asked .put-refusal .ensures) ∙ ap codeOf (c .before .before .before .before .enum-told .given .1))
     (λ i. done (a .x) (a .s) (w .ensures .0 i) (a .v)) (w .ensures .1)
 
@@ -33,7 +33,7 @@ returns-2 c =
     let r = c .before .put-refusal in
     let known = c .before .before .before in
     let a = known .before .args in
-    serves-refused (a .t .now) (Put (a .s) (a .x) (a .v)) (r .result) (r .ensures) (refusing (r .result) (c .match .keys2))
+    serves-refused (engineOf (a .engine)) (a .t .now) (Put (a .s) (a .x) (a .v)) (r .result) (r .ensures) (refusing (r .result) (c .match .keys2))
 
 pub put-spec : {M : Type 1} → statement M
 put-spec =

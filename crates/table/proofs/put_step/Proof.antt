@@ -1,5 +1,5 @@
 use mathlib.Core.Path.{ap, _∙_}
-use Prim.Native.Nat.{ℕ, _-_, _%_, max}
+use Prim.Native.Nat.{ℕ, _-_, _%_}
 use Rattle.layout.specs.State.{stateOf}
 use Rattle.layout.proofs.Places.{row-read}
 use Rattle.table.proofs.Stores.{next-is, put-stores}
@@ -9,9 +9,8 @@ use Rattle.table.proofs.put_step.Tie as tie
 
 returns : tie.Need-returns
 returns c =
-    let depends = c .before .before in
-    let greater = depends .before in
-    let applied = greater .before .before .before .before .before .before in
+    let left = c .before .before in
+    let applied = left .before .before .before .before in
     let entry = applied .before .before .before .before in
     let update = entry .before .before .before .before in
     let zero = update .before .before in
@@ -24,11 +23,10 @@ returns c =
     let ec = next-is S s s (after .after .ensures) (after .before .applied-at .ensures) in
     let er = row-read s (S .depends) (row .depends .ensures) in (
       ec,
-      put-stores S (stateOf (update .set-update .last .0)) (stateOf (entry .set-entry .last .0)) (stateOf (applied .set-applied .last .0)) (stateOf (depends .set-depends-at .last .0))
-          s (start .args .x) (start .args .v) (after .after .result) _ _ _ _
-          (update .set-update .ensures) (entry .set-entry .ensures) (applied .set-applied .ensures) (depends .set-depends-at .ensures)
-          ec (ap (λ (m : ℕ). m % 16) (wide .wide .ensures .0 ∙ ap (λ (m : ℕ). m - 1) ec)) er (zero .zero .ensures)
-          (greater .greater .ensures ∙ (λ i. max (greater .before .depends-at .ensures i) (after .after .result))),
+      put-stores S (start .args .engine) (stateOf (update .set-update .last .0)) (stateOf (entry .set-entry .last .0)) (stateOf (applied .set-applied .last .0)) (stateOf (left .leave-row .last .0))
+          s (start .args .x) (start .args .v) (after .after .result) _ _ _
+          (update .set-update .ensures) (entry .set-entry .ensures) (applied .set-applied .ensures) (left .leave-row .ensures)
+          ec (ap (λ (m : ℕ). m % 16) (wide .wide .ensures .0 ∙ ap (λ (m : ℕ). m - 1) ec)) er (zero .zero .ensures),
     )
 
 pub put-step-spec : {M : Type 1} → statement M
@@ -41,16 +39,14 @@ put-step-spec =
     (λ c κs. search needs)  -- wide-requires
     (λ c. search needs)  -- add-depends
     (λ c κs. search needs)  -- depends-requires
-    (λ c. search needs)  -- mul-t13
-    (λ c. search needs)  -- array-copy-out-t19
+    (λ c. search needs)  -- mul-t14
+    (λ c. search needs)  -- array-copy-out-t20
     (λ c κs. search needs)  -- zero-requires
-    (λ c. search needs)  -- cast-t23
+    (λ c. search needs)  -- cast-t24
     (λ c κs. search needs)  -- set-update-requires
-    (λ c. search needs)  -- cast-t23-2
+    (λ c. search needs)  -- cast-t24-2
     (λ c κs. search needs)  -- set-entry-requires
     (λ c κs. search needs)  -- set-applied-requires
-    (λ c κs. search needs)  -- depends-at-requires
-    (λ c κs. search needs)  -- greater-requires
-    (λ c κs. search needs)  -- set-depends-at-requires
+    (λ c κs. search needs)  -- leave-row-requires
     (λ c. search needs)  -- same-length
     returns)

@@ -5,7 +5,7 @@ use Rattle.layout.specs.Ranges.{Bytes}
 use Rattle.rules.specs.Touch.{touched}
 use Rattle.rules.specs.Steps.{done, put, touch}
 use Rattle.rules.specs.Calls.{Touch, step}
-use Rattle.table.specs.Answers.{codeOf}
+use Rattle.table.specs.Answers.{codeOf, engineOf}
 use Rattle.table.proofs.Codes.{refusing}
 use Rattle.table.proofs.Serves.{serves-refused, serves-step}
 use Rattle.touch.proofs.Touching as touching
@@ -35,16 +35,16 @@ put-step-requires c κs =
     let a = c .before .before .before .before .before .before .before .before .before .before .before .args in
     let w = c .before .before .before .before .get-step in
     touching.put-fits (a .t .now) (a .s) (a .x) (a .hour) (a .toucher) (a .tier) (sym (c .before .before .before .before .before .before .before .before .touch-refusal .ensures) ∙ ap codeOf (c .before .before .before .before .before .before .enum-told .given .1))
-    (w .last .0) (w .kept .0) (w .ensures .1)
+    (engineOf (a .engine)) (w .last .0) (w .kept .0) (w .ensures .1)
 
-cast-t19 : tie.Need-cast-t19
-cast-t19 c =
+cast-t20 : tie.Need-cast-t20
+cast-t20 c =
     let a = c .before .before .before .before .before .before .before .before .before .before .before .before .before .before .args in
     let p = touching.small (a .t .now) (a .s) (a .x) (a .hour) (a .toucher) (a .tier) (sym (c .before .before .before .before .before .before .before .before .before .before .before .touch-refusal .ensures) ∙ ap codeOf (c .before .before .before .before .before .before .before .before .before .enum-told .given .1)) in
     omega (arith, p .1)
 
-cast-t20 : tie.Need-cast-t20
-cast-t20 c =
+cast-t21 : tie.Need-cast-t21
+cast-t21 c =
     let a = c .before .before .before .before .before .before .before .before .before .before .before .before .before .before .args in
     let p = touching.small (a .t .now) (a .s) (a .x) (a .hour) (a .toucher) (a .tier) (sym (c .before .before .before .before .before .before .before .before .before .before .before .touch-refusal .ensures) ∙ ap codeOf (c .before .before .before .before .before .before .before .before .before .enum-told .given .1)) in
     omega (arith, p .0)
@@ -58,16 +58,16 @@ returns c =
     let p = c .before .before .put-step in
     let v : c .before .before .before .before .touched .result ≡ touched (S .store (a .s) (a .x) .value) (a .hour) (a .toucher) (a .tier) =
     c .before .before .before .before .touched .ensures ∙ ap (λ (e : Entry). touched (e .value) (a .hour) (a .toucher) (a .tier)) (g .ensures .0) in
-    serves-step (a .t .now) (Touch (a .s) (a .x) (a .hour) (a .toucher) (a .tier)) _ (p .last .0) (p .kept .0 ∙ g .kept .0) (λ i. omega (arith, c .slice-known3 .given i))
+    serves-step (engineOf (a .engine)) (a .t .now) (Touch (a .s) (a .x) (a .hour) (a .toucher) (a .tier)) _ (p .last .0) (p .kept .0 ∙ g .kept .0) (λ i. omega (arith, c .slice-known3 .given i))
     (sym (c .before .before .before .before .before .before .before .before .before .before .before .touch-refusal .ensures) ∙ ap codeOf (c .before .before .before .before .before .before .before .before .before .enum-told .given .1))
-    ((λ i. done (a .x) (a .s) (p .ensures .0 i) (v i)) ∙ ap (λ (T : State). put T (a .s) (a .x) (touched (S .store (a .s) (a .x) .value) (a .hour) (a .toucher) (a .tier)) .answer) (g .ensures .1))
-    (p .ensures .1 ∙ (λ i. put (g .ensures .1 i) (a .s) (a .x) (v i) .after))
+    ((λ i. done (a .x) (a .s) (p .ensures .0 i) (v i)) ∙ ap (λ (T : State). put (engineOf (a .engine)) T (a .s) (a .x) (touched (S .store (a .s) (a .x) .value) (a .hour) (a .toucher) (a .tier)) .answer) (g .ensures .1))
+    (p .ensures .1 ∙ (λ i. put (engineOf (a .engine)) (g .ensures .1 i) (a .s) (a .x) (v i) .after))
 
 returns-2 : tie.Need-returns-2
 returns-2 c =
     let r = c .before .touch-refusal in
     let a = c .before .before .before .before .args in
-    serves-refused (a .t .now) (Touch (a .s) (a .x) (a .hour) (a .toucher) (a .tier)) (r .result) (r .ensures) (refusing (r .result) (c .match .keys2))
+    serves-refused (engineOf (a .engine)) (a .t .now) (Touch (a .s) (a .x) (a .hour) (a .toucher) (a .tier)) (r .result) (r .ensures) (refusing (r .result) (c .match .keys2))
 
 pub touch-spec : {M : Type 1} → statement M
 touch-spec =
@@ -79,8 +79,8 @@ touch-spec =
     cast-touched
     touched-requires
     put-step-requires
-    cast-t19
     cast-t20
+    cast-t21
     (λ c. search needs)  -- same-length
     returns
     (λ c. search needs)  -- same-length-2

@@ -3,7 +3,7 @@ use native.Mathlib.Omega.{arith}
 use Rattle.layout.specs.Ranges.{Bytes}
 use Rattle.rules.specs.Steps.{done, get}
 use Rattle.rules.specs.Calls.{Adopt, step}
-use Rattle.table.specs.Answers.{codeOf}
+use Rattle.table.specs.Answers.{codeOf, engineOf}
 use Rattle.table.proofs.Codes.{refusing, adopt-clear, get-fits}
 use Rattle.table.proofs.Serves.{serves-refused, serves-step}
 use borrow.Author.Needs.{needs}
@@ -23,7 +23,7 @@ returns c =
     let w = c .before .before .get-step in
     let asked = c .before .before .before .before .before .before in
     let a = asked .before .before .before .args in
-    serves-step (a .t .now) (Adopt (a .s) (a .x) (a .o) (a .c)) _ (w .last .0) (w .kept .0) (λ i. omega (arith, c .slice-known2 .given i))
+    serves-step (engineOf (a .engine)) (a .t .now) (Adopt (a .s) (a .x) (a .o) (a .c)) _ (w .last .0) (w .kept .0) (λ i. omega (arith, c .slice-known2 .given i))
     (sym (asked .adopt-refusal .ensures) ∙ ap codeOf (c .before .before .before .before .enum-told .given .1))
     (λ i. done (a .x) (w .ensures .0 i .origin) (w .ensures .0 i .clock) (w .ensures .0 i .value)) (w .ensures .1)
 
@@ -32,7 +32,7 @@ unfolding Bytes
 returns-2 c =
     let r = c .before .adopt-refusal in
     let a = c .before .before .before .before .args in
-    serves-refused (a .t .now) (Adopt (a .s) (a .x) (a .o) (a .c)) (r .result) (r .ensures) (refusing (r .result) (c .match .keys2))
+    serves-refused (engineOf (a .engine)) (a .t .now) (Adopt (a .s) (a .x) (a .o) (a .c)) (r .result) (r .ensures) (refusing (r .result) (c .match .keys2))
 
 pub adopt-spec : {M : Type 1} → statement M
 adopt-spec =

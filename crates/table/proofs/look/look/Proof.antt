@@ -1,6 +1,7 @@
 use mathlib.Core.Path.{refl, sym, ap, _∙_}
 use native.Mathlib.Omega.{arith}
 use Rattle.layout.specs.Ranges.{Bytes}
+use Rattle.rules.specs.Engine.{ours}
 use Rattle.rules.specs.Steps.{done, get, look}
 use Rattle.rules.specs.Calls.{Look, step, asks}
 use Rattle.table.specs.Answers.{codeOf}
@@ -24,7 +25,7 @@ returns c =
     let known = asked .before in
     let a = known .before .args in
     let e = c .entry-at .ensures in
-    serves-step (a .t .now) (Look (a .s) (a .x)) _ (a .t .now) refl (λ i. omega (arith, known .shared-slice-known .given i))
+    serves-step ours (a .t .now) (Look (a .s) (a .x)) _ (a .t .now) refl (λ i. omega (arith, known .shared-slice-known .given i))
     (sym (asked .get-refusal .ensures) ∙ ap codeOf (c .before .enum-told .given .1)) (λ i. done (a .x) (e i .origin) (e i .clock) (e i .value)) refl
 
 returns-2 : tie.Need-returns-2
@@ -32,7 +33,7 @@ unfolding asks
 returns-2 c =
     let r = c .before .get-refusal in
     let a = c .before .before .before .args in
-    serves-refused (a .t .now) (Look (a .s) (a .x)) (r .result) (r .ensures) (refusing (r .result) (c .match .keys2))
+    serves-refused ours (a .t .now) (Look (a .s) (a .x)) (r .result) (r .ensures) (refusing (r .result) (c .match .keys2))
 
 pub look-spec : {M : Type 1} → statement M
 look-spec =
