@@ -4,15 +4,16 @@
 # make install PREFIX=dir: both there, with a pkg-config file
 # make story: a backup scan seen from far away, here and in a plain replica
 # make policy: a month of a policy that moves cold files, here, with scans that make them look fresh, and with gets for looks
+# make tiers: two sites that disagree on a file's tier for good, before request (e) of document 02 and now
 # make play FILE=x.sched: a schedule written as text, beside its answers
 # make draw FILE=x.sched: the same as a picture, build/x.svg
 # make table FILE=x.sched: the table that a schedule leaves, as bytes, build/x.table
 # make waits FILE=build/x.table: of each link of a table, whether it is ready or what it waits for
 # make soak SECONDS=n: random schedules and random calls, half of the time each
 # make bench: the library against the second program, in turns
-# make lists: what an update carries with long lists and with short ones, in a month of eight sites; drawn as build/lists.svg
+# make lists: what an update carries with our lists and with short ones, in a month of eight sites; drawn as build/lists.svg
 # make times: the proving seconds of each crate, from nothing
-.PHONY: help test run lib install story policy play draw table waits soak bench lists times
+.PHONY: help test run lib install story policy tiers play draw table waits soak bench lists times
 
 PREFIX ?= /usr/local
 SECONDS ?= 600
@@ -57,6 +58,10 @@ story: lib
 policy: lib
 	@$(CC) $(STRICT) $(CFLAGS) -Ibuild examples/cold_policy.c $(LIBRARY) -o build/cold_policy
 	@build/cold_policy
+
+tiers: lib
+	@$(CC) $(STRICT) $(CFLAGS) -Ibuild examples/two_tiers.c $(LIBRARY) -o build/two_tiers
+	@build/two_tiers
 
 play: target/bin/run_schedule
 	@tools/sched play "$(FILE)"

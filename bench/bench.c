@@ -92,7 +92,7 @@ static struct cost cost_of(struct scene *scene, const struct starts *starts, uns
 int main(int argc, char **argv)
 {
     static const unsigned site_counts[] = {1, 2, 4, 8}, key_counts[] = {1, 16, 64};
-    static struct starts starts[2]; /* with long lists, and with short ones */
+    static struct starts starts[2]; /* with our calls, and with short lists */
     if (argc != 3) {
         fputs("bench TURNS FIGURES.tsv\n", stderr);
         return 2;

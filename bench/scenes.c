@@ -10,7 +10,7 @@ enum { ALONE = FC_PLACES / 2, ROUNDS = 6, KINDS_OF_MIX = MIXES / 2 };
 
 const char *const filling_names[FILLINGS] = {"fresh", "half", "full"};
 
-/* How often each call comes up in a mix; each mix is made with long lists, and again with short ones. */
+/* How often each call comes up in a mix; each mix is made with our calls, and again with short lists. */
 static const struct {
     const char *name, *short_name;
     unsigned weights[KINDS];

@@ -7,9 +7,9 @@
  * of each origin each site has applied, what each site depends on, and the updates still under way.
  * A put at a site is stored there at once and becomes an update for every other site. A delivery
  * carries the next update of one origin to one site, and is accepted only when the site has applied
- * everything that update depends on: all that its origin had put, got or adopted before. So whoever
- * reads a value at a site also finds there what the writer of that value had put, got or adopted
- * before it, or what was put over that.
+ * everything that update depends on: all that its origin had put, got or adopted before, and the put
+ * that it overwrites. So whoever reads a value at a site also finds there what the writer of that value
+ * had put, got, adopted or overwritten before it, or what has taken the place of that.
  *
  * The library keeps nothing between calls: no heap, no globals, no files, no clock. What there is to
  * remember is in the table, and the table may be copied, moved or saved between calls like any bytes.
@@ -26,11 +26,26 @@
  * fc_get reads, and later puts of its site depend on what it read. Where many keys are read and few
  * acted on, fc_look reads and no more, and fc_adopt then takes on the dependence for those few.
  *
- * The fc_short_ calls do the same with shorter lists of what a put depends on; see SHORT LISTS below, and
- * choose one kind of calls for a table.
+ * The fc_short_ calls send shorter lists of what a put depends on, and keep the steps from before
+ * ONE WINNER; see SHORT LISTS below, and choose one kind of calls for a table.
  *
  * A value may be anything to fc_put and fc_get. fc_touch writes touch records, values that say when a
  * file was last used, and fc_cold lists the keys whose records are old; see TOUCH RECORDS below.
+ *
+ * ONE WINNER
+ *
+ * Two sites may write one key before either hears of the other. Which of the two puts stays is a matter
+ * of ranks. The rank of a put is the sum of the clocks, one for each site, of what it depends on; it
+ * depends on the put that it overwrites, and so outranks it. A delivery replaces what the site holds under
+ * the key if that was never written, if the update's rank is higher, or if the ranks are equal and the
+ * update's origin is not lower. Otherwise the site keeps what it holds, and the update counts as applied
+ * all the same.
+ *
+ * So what came last decides nothing. In a table that was opened and then changed only by these calls, the
+ * fc_short_ ones left out, a site holds of each key the highest of the puts that it has applied; and when
+ * every site has applied every put, all stores are equal, in every byte of every entry. fc_drain() of each
+ * site, once, with FC_ENOUGH, brings that about. Ranks do not know which of two puts is the better: where
+ * that matters, look at the key when all has come, and put again.
  *
  * WHAT THE CALLER OWES
  *
@@ -120,10 +135,12 @@ uint32_t fc_open(uint64_t sites, uint64_t keys,
                  uint8_t *table, size_t table_len, uint8_t *reply, size_t reply_len);
 
 /*
- * Writes value under key at site, and makes it the site's next update.
+ * Writes value under key at site, and makes it the site's next update. It first takes on the dependence
+ * of what it overwrites, as fc_get would; refused, it has taken on nothing.
  *
  * FC_OK: the reply holds key, site, the put's clock (1 for a site's first put, then 2, ..) and value.
- * The update depends on all that the site had put, got or adopted before.
+ * The update depends on all that the site had put, got or adopted before, on the put that it overwrites,
+ * and on all that one depended on.
  * Refusals: FC_SIZE, FC_UNSOUND, FC_SITE, FC_KEY, FC_SPENT, FC_ROOM.
  */
 uint32_t fc_put(uint64_t site, uint64_t key, uint32_t value,
@@ -144,7 +161,7 @@ uint32_t fc_get(uint64_t site, uint64_t key,
 
 /*
  * Reads key at site and changes no byte of the table: later puts of the site do not depend on what was
- * read, unless it is adopted.
+ * read, unless it is adopted or put over.
  *
  * FC_OK: the reply is that of fc_get.
  * Refusals: FC_SIZE, FC_UNSOUND, FC_SITE, FC_KEY.
@@ -174,8 +191,10 @@ uint32_t fc_adopt(uint64_t site, uint64_t key, uint64_t origin, uint64_t clock,
 /*
  * Applies at site the next update of origin, the one with clock applied(site, origin) + 1.
  *
- * FC_OK: the reply holds the update's key, origin (as site), clock and value, and the site now holds
- * it. What the site depends on does not change until it gets or adopts the key.
+ * FC_OK: the reply holds the update's key, origin (as site), clock and value, and the site has applied
+ * it. The site now holds it under that key, or still what it held, if that is the higher: see ONE WINNER
+ * above. The reply is the same for both; fc_look() tells. What the site depends on does not change until
+ * it gets, adopts or puts over the key.
  * FC_WAITS: the reply's value says all sites of which a cause is missing, bit m (worth 2 to the
  * power m) for site m: ask fc_waits_for(). 1 is site 0 alone, 6 the sites 1 and 2, 128 site 7. The
  * reply's site and clock name the lowest of them, and the clock up to which its updates must be applied
@@ -196,7 +215,8 @@ uint32_t fc_deliver(uint64_t site, uint64_t origin,
  * ends after a pass that delivered nothing. A refused delivery is a try too.
  *
  * FC_OK: the reply holds the deliveries made (as clock) and the tries made (as value). In a table
- * that was opened and then changed only by these calls, the site now holds every accepted put.
+ * that was opened and then changed only by these calls, the fc_short_ ones left out, the site has now
+ * applied every accepted put; and when every site has, all stores are equal.
  * FC_BUDGET: the same two numbers, as far as it came; what was delivered stays.
  * Refusals: FC_SIZE, FC_UNSOUND, FC_SITE, FC_BUDGET. FC_ENOUGH is always enough.
  */
@@ -235,9 +255,9 @@ enum fc_touched_by {
  * FC_RANGE: toucher or tier is above 3, or now is above 65,535.
  * Refusals: FC_RANGE, FC_SIZE, FC_UNSOUND, FC_SITE, FC_KEY, FC_RECORD, FC_SPENT, FC_ROOM.
  *
- * As with any put, where two sites write one key and neither has heard of the other, each ends with
- * the one that came to it last, even if its hour is the older. If a key is touched at one site alone,
- * every site has the newest record of it that it has heard of.
+ * As with any put, where two sites write one key and neither has heard of the other, all sites end with
+ * the same one of the two, even if its hour is the older: see ONE WINNER above. If a key is touched at one
+ * site alone, every site has the newest record of it that it has heard of.
  */
 uint32_t fc_touch(uint64_t site, uint64_t key, uint64_t now, uint64_t toucher, uint64_t tier,
                   uint8_t *table, size_t table_len, uint8_t *reply, size_t reply_len);
@@ -292,34 +312,43 @@ static inline unsigned fc_tier(uint32_t value)
  * With the calls above an update carries all that it depends on, the causes of its causes too: in time a
  * clock for every site, most of them old news. With the calls below it carries the list of its immediate
  * causes: the site's own last put, and what the site has got or adopted since. A site takes an update only
- * after those, and has taken each of those only after its own causes; so nothing comes before what it rests
- * on, and the same calls on a table of their own give the same codes, the same answers and the same values.
+ * after those, and has taken each of those only after its own causes. What is proved of these calls is that
+ * they answer and hold, call for call, what the same calls with whole lists would by the steps they keep; of
+ * orders and equal stores nothing is.
  *
- * Each has the arguments, the refusals and the answers of its namesake. fc_open opens the table for both
- * kinds of calls; fc_look and fc_cold change nothing and serve both.
+ * These calls keep the steps from before ONE WINNER. A put takes on nothing of what it overwrites, and every
+ * delivery replaces what the site holds. So of two sites that write one key before they hear of each other,
+ * each ends with the other's put, and they disagree for good, though all has been delivered.
  *
- * One thing differs. Beside FC_WAITS the reply's value, site and clock speak of the immediate causes alone.
- * What these wait for in their turn is told when they are delivered.
+ * Each has the arguments and the refusals of its namesake, and answers in the same form. fc_open opens the
+ * table for both kinds of calls; fc_look and fc_cold change nothing and serve both. Beside FC_WAITS the
+ * reply's value, site and clock speak of the immediate causes alone. What these wait for in their turn is
+ * told when they are delivered.
  *
- * Which to choose: short lists where what an update carries counts, since few of its eight clocks are not
- * 0. The calls above where somebody mends links by what FC_WAITS says, since there it names every site of
- * which a cause is missing, at once.
+ * Which to choose: short lists where what an update carries counts, since few of its eight clocks are not 0,
+ * and where each key is written at one site, or a disagreement does no harm. Else the calls above; also where
+ * somebody mends links by what FC_WAITS says, since there it names every site of which a cause is missing, at
+ * once.
  *
  * Do not mix them on one table, from fc_open to the next fc_open. The table does not say which calls have
  * changed it, and no call refuses a table of the other kind; each still does what it says. But:
+ * - Stores no longer end equal, and a put can lose to the one that it overwrote. Say site 0 has put key 0
+ *   twice, and site 1, which has both, puts over them with fc_short_put. That depends on nothing, so its rank
+ *   is the lower: site 2, given all three with fc_drain, ends with site 0's second put, and site 1 with its own.
  * - FC_WAITS then names less than all that is missing, even to fc_deliver. An fc_get takes on what the
  *   update carried that it reads: if that was put with fc_short_put, only its immediate causes. Say site 0
  *   has put key 0; site 1 gets it and puts keys 1 and 2; site 2 gets key 2 and puts key 3. Site 3, which
  *   has heard of nothing, is told to wait for the sites 0 and 1; if site 1's puts were fc_short_put, for
  *   site 1 alone, and meets site 0 when it has mended that link.
  * - Lists do not stay short: an fc_get takes on the whole of a long one.
- * - What is said of a table that was opened and then changed only by these calls is proved of either
- *   kind, not of both on one table: that a drain leaves no accepted put behind, and that no site takes an
- *   update before its causes.
+ * - What is said of a table that was opened and then changed only by these calls is said of one kind or
+ *   the other, not of both on one table: that a drain leaves no accepted put behind, and that no site takes
+ *   an update before its causes.
  */
 
 /*
- * As fc_put. The update depends on what the site's list has; the list is then this put alone.
+ * As fc_put, but it takes on nothing of what it overwrites. The update depends on what the site's list has;
+ * the list is then this put alone.
  * Refusals: FC_SIZE, FC_UNSOUND, FC_SITE, FC_KEY, FC_SPENT, FC_ROOM.
  */
 uint32_t fc_short_put(uint64_t site, uint64_t key, uint32_t value,
@@ -347,15 +376,17 @@ uint32_t fc_short_touch(uint64_t site, uint64_t key, uint64_t now, uint64_t touc
                         uint8_t *table, size_t table_len, uint8_t *reply, size_t reply_len);
 
 /*
- * As fc_deliver. FC_WAITS: the reply's value says the sites of which an immediate cause is missing, its
- * site and clock the lowest of them and up to where.
+ * As fc_deliver, but the site then holds the update, whatever it held under that key. FC_WAITS: the reply's
+ * value says the sites of which an immediate cause is missing, its site and clock the lowest of them and up
+ * to where.
  * Refusals: FC_SIZE, FC_UNSOUND, FC_SITE, FC_SAME, FC_NONE, FC_WAITS.
  */
 uint32_t fc_short_deliver(uint64_t site, uint64_t origin,
                           uint8_t *table, size_t table_len, uint8_t *reply, size_t reply_len);
 
 /*
- * As fc_drain: the same deliveries and the same tries.
+ * As fc_drain: the same deliveries and the same tries, each delivery as fc_short_deliver makes it. When every
+ * site has applied every put, stores can differ all the same.
  * Refusals: FC_SIZE, FC_UNSOUND, FC_SITE, FC_BUDGET. FC_ENOUGH is always enough.
  */
 uint32_t fc_short_drain(uint64_t site, uint64_t budget,

@@ -73,6 +73,8 @@ def in_words(operation, line):
         return f"{line.clock} delivered, {line.value} tried"
     if operation == "get" and not line.clock:
         return f"key {line.key} was never written here"
+    if operation == "deliver":  # what the site then holds under the key is for its ranks to say, and a get to tell
+        return f"applied put {line.clock} of site {line.site}: key {line.key}, value {line.value}"
     return f"key {line.key} is {line.value}, put {line.clock} of site {line.site}"
 
 

@@ -1,5 +1,5 @@
 /*
- * What short lists save: a month of eight sites, played with long lists on one table and with short ones on another.
+ * What short lists save: a month of eight sites, played with our calls on one table and with short lists on another.
  *
  * Each site holds a copy of each of eight documents as a file. People read files at their site; one time in four they
  * first get the records of one to three other copies. By day somebody at each site gets a record every hour, of any
@@ -12,7 +12,8 @@
  * pairs of a site and a clock that its list has. As pairs, a list takes 3 bits of site and 16 of clock for each, in
  * whole bytes; its length then says how many there are. As columns it takes 8 clocks of 2 bytes.
  *
- * Fails if the two ever answer another code, or if a short list has more pairs than the long one of the same update.
+ * Each file is written at one site alone, so the calls with short lists, which keep the steps before request (e), answer
+ * as ours do. Fails if the two ever answer another code, or if a short list has more pairs than ours of the same update.
  */
 #include "rng.h"
 #include "tables.h"
@@ -23,10 +24,10 @@
 
 enum { FILES = FC_KEYS, DAY = 24, DAYS = 30, THRESHOLD = 3 * DAY, FIRST_HOUR = 1000 };
 enum { FAST, SLOW, TAPE };
-enum { LONG, SHORT, ENGINES };
+enum { OURS, SHORT, ENGINES };
 enum { PAIR_BITS = 3 + 16, COLUMN_BYTES = 2 * FC_SITES };
 
-static const char *const lists[ENGINES] = {"long lists", "short lists"};
+static const char *const lists[ENGINES] = {"our lists", "short lists"};
 static struct rng rng = {2026};
 static uint8_t tables[ENGINES][FC_TABLE_BYTES], replies[ENGINES][FC_REPLY_BYTES];
 
@@ -36,13 +37,13 @@ static uint64_t reads, scans, moves, gets, deliveries, waits; /* how many of eac
 
 static void fail(const char *what)
 {
-    printf("lists: FAILED: %s, codes %u and %u\n", what, replies[LONG][0], replies[SHORT][0]);
+    printf("lists: FAILED: %s, codes %u and %u\n", what, replies[OURS][0], replies[SHORT][0]);
     exit(1);
 }
 
-/* A call with long lists and the same with short ones: each on its table, and the code of both. */
+/* A call of ours and the same with short lists: each on its table, and the code of both. */
 #define BOTH(name, ...) \
-    agreed(fc_##name(__VA_ARGS__, tables[LONG], FC_TABLE_BYTES, replies[LONG], FC_REPLY_BYTES), \
+    agreed(fc_##name(__VA_ARGS__, tables[OURS], FC_TABLE_BYTES, replies[OURS], FC_REPLY_BYTES), \
            fc_short_##name(__VA_ARGS__, tables[SHORT], FC_TABLE_BYTES, replies[SHORT], FC_REPLY_BYTES))
 
 static uint32_t agreed(uint32_t one, uint32_t other)
@@ -67,14 +68,14 @@ static unsigned bytes_of(unsigned pairs)
 
 static void count_update(size_t origin, int hour)
 {
-    unsigned clock = fc_read(replies[LONG]).clock, pairs[ENGINES];
+    unsigned clock = fc_read(replies[OURS]).clock, pairs[ENGINES];
     updates_on[hour / DAY]++;
     for (int engine = 0; engine < ENGINES; engine++) {
         pairs[engine] = pairs_of(tables[engine], origin, clock);
         updates_with[engine][pairs[engine]]++;
         pairs_on[engine][hour / DAY] += pairs[engine];
     }
-    if (pairs[SHORT] > pairs[LONG])
+    if (pairs[SHORT] > pairs[OURS])
         fail("a short list is longer");
 }
 
@@ -91,7 +92,7 @@ static void catch_up(void)
     for (unsigned site = 0; site < FC_SITES; site++) {
         if (BOTH(drain, site, FC_ENOUGH) != FC_OK)
             fail("a drain was refused");
-        deliveries += fc_read(replies[LONG]).clock;
+        deliveries += fc_read(replies[OURS]).clock;
     }
 }
 
@@ -125,9 +126,9 @@ static struct fc_answer look(unsigned site, unsigned file)
 {
     for (int engine = 0; engine < ENGINES; engine++)
         fc_look(site, file, tables[engine], FC_TABLE_BYTES, replies[engine], FC_REPLY_BYTES);
-    if (replies[LONG][0] != FC_OK || memcmp(replies[LONG], replies[SHORT], FC_REPLY_BYTES) != 0)
+    if (replies[OURS][0] != FC_OK || memcmp(replies[OURS], replies[SHORT], FC_REPLY_BYTES) != 0)
         fail("a look answers another record");
-    return fc_read(replies[LONG]);
+    return fc_read(replies[OURS]);
 }
 
 static bool at_work(int hour)
@@ -247,9 +248,9 @@ static unsigned least_bytes(unsigned pairs)
     return bytes_of(pairs) < COLUMN_BYTES ? bytes_of(pairs) : COLUMN_BYTES;
 }
 
-static void say_row(const char *what, double of_long, double of_short)
+static void say_row(const char *what, double of_ours, double of_short)
 {
-    printf("| %s | %.2f | %.2f |\n", what, of_long, of_short);
+    printf("| %s | %.2f | %.2f |\n", what, of_ours, of_short);
 }
 
 static void say(void)
@@ -259,11 +260,11 @@ static void say(void)
            (unsigned long long)moves, (unsigned long long)gets);
     printf("Links make %llu deliveries, and %llu tries that have to wait for a cause.\n\n",
            (unsigned long long)deliveries, (unsigned long long)waits);
-    printf("| of an update's list, on average | %s | %s |\n|---|---|---|\n", lists[LONG], lists[SHORT]);
-    say_row("clocks that are not 0, of eight", mean(LONG, itself), mean(SHORT, itself));
-    say_row("bytes as pairs of 3 bits of site and 16 of clock", mean(LONG, bytes_of), mean(SHORT, bytes_of));
+    printf("| of an update's list, on average | %s | %s |\n|---|---|---|\n", lists[OURS], lists[SHORT]);
+    say_row("clocks that are not 0, of eight", mean(OURS, itself), mean(SHORT, itself));
+    say_row("bytes as pairs of 3 bits of site and 16 of clock", mean(OURS, bytes_of), mean(SHORT, bytes_of));
     say_row("bytes as eight columns of 2", COLUMN_BYTES, COLUMN_BYTES);
-    say_row("bytes in the shorter of the two forms", mean(LONG, least_bytes), mean(SHORT, least_bytes));
+    say_row("bytes in the shorter of the two forms", mean(OURS, least_bytes), mean(SHORT, least_bytes));
     printf("\n| clocks that are not 0 |");
     for (unsigned pairs = 0; pairs <= FC_SITES; pairs++)
         printf(" %u |", pairs);
@@ -282,13 +283,13 @@ static bool write_figures(const char *path)
     FILE *figures = fopen(path, "w");
     if (figures == NULL)
         return false;
-    fputs("what\tat\tupdates\tlong\tshort\n", figures);
+    fputs("what\tat\tupdates\tour\tshort\n", figures);
     for (unsigned pairs = 0; pairs <= FC_SITES; pairs++)
         fprintf(figures, "pairs\t%u\t%llu\t%llu\t%llu\n", pairs, (unsigned long long)updates(),
-                (unsigned long long)updates_with[LONG][pairs], (unsigned long long)updates_with[SHORT][pairs]);
+                (unsigned long long)updates_with[OURS][pairs], (unsigned long long)updates_with[SHORT][pairs]);
     for (int day = 0; day < DAYS; day++)
         fprintf(figures, "day\t%d\t%llu\t%llu\t%llu\n", day + 1, (unsigned long long)updates_on[day],
-                (unsigned long long)pairs_on[LONG][day], (unsigned long long)pairs_on[SHORT][day]);
+                (unsigned long long)pairs_on[OURS][day], (unsigned long long)pairs_on[SHORT][day]);
     return fclose(figures) == 0;
 }
 
@@ -314,7 +315,7 @@ int main(int argc, char **argv)
         perror(argv[1]);
         return 2;
     }
-    if (mean(SHORT, itself) >= mean(LONG, itself))
+    if (mean(SHORT, itself) >= mean(OURS, itself))
         fail("short lists save nothing");
     return 0;
 }

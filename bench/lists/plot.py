@@ -7,7 +7,7 @@ import csv
 import sys
 
 PANEL, HEIGHT, LEFT, GAP, TOP, BOTTOM = 400, 340, 56, 76, 64, 58
-COLOURS = {"long": "#b2541f", "short": "#1f6fb2"}
+COLOURS = {"our": "#b2541f", "short": "#1f6fb2"}
 SITES = 8
 
 

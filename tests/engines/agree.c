@@ -1,7 +1,8 @@
 /*
- * The same calls from opening, with long lists on one table and with short ones on another: after every step the
- * codes, the answers, the entries and the applied counts are the same. Only the site, clock and value beside a 10 may
- * differ, and in the tables only what the sites depend on and the vectors.
+ * The same calls from opening, with the library's short lists on one table and with the second program's long ones, by the
+ * steps before request (e), on another: after every step the codes, the answers, the entries and the applied counts are
+ * the same. Only the site, clock and value beside a 10 may differ, and in the tables only what the sites depend on and
+ * the vectors.
  */
 #include "tables.h"
 #include "traffic.h"
@@ -98,13 +99,13 @@ static struct lengths some_lengths(void)
 }
 
 /* The same garbage stands in both replies and lists before the call. */
-static void make(struct side *side, struct call call, struct lengths lengths)
+static void make(struct side *side, const struct library *library, struct call call, struct lengths lengths)
 {
     memset(side->list, 0xA5, sizeof side->list);
     memset(side->reply, 0xA5, sizeof side->reply);
     struct buffers lent = {
         {side->table, lengths.table}, {side->list, lengths.list}, {side->reply, lengths.reply}};
-    side->code = make_call(&forkcanyon, &call, &lent);
+    side->code = make_call(library, &call, &lent);
 }
 
 static void complain(const char *what, const struct call *call)
@@ -121,8 +122,8 @@ static void step(struct call call, struct lengths lengths)
 {
     struct call with_short = call;
     with_short.kind = with_short_lists(call.kind);
-    make(&long_side, call, lengths);
-    make(&short_side, with_short, lengths);
+    make(&long_side, &before, call, lengths);
+    make(&short_side, &forkcanyon, with_short, lengths);
     seen.steps++;
     const char *what = wrong_answers();
     if (what == NULL)
@@ -169,8 +170,8 @@ static void chain_of_three(void)
         step(*call, right);
 }
 
-/* The header's example of a table that both kinds of calls have changed: site 1 puts this way, the others with long
-   lists. The sites that site 3 is told to wait for. */
+/* The header's examples of a table that both kinds of calls have changed: site 1 puts this way, the others with our
+   calls. The sites that site 3 is told to wait for. */
 static uint32_t told_to_site_3(enum kind put)
 {
     uint8_t table[FC_TABLE_BYTES], reply[FC_REPLY_BYTES];
@@ -184,15 +185,30 @@ static uint32_t told_to_site_3(enum kind put)
     return fc_read(reply).code == FC_WAITS ? fc_read(reply).value : 0;
 }
 
+/* Site 1 has both of site 0's puts and puts over them: what site 2 holds in the end. */
+static uint32_t held_by_site_2(enum kind put)
+{
+    uint8_t table[FC_TABLE_BYTES], reply[FC_REPLY_BYTES];
+    const struct call calls[] = {
+        {OPEN, {3, 1}},           {PUT, {0, 0, 5}}, {PUT, {0, 0, 6}},
+        {DRAIN, {1, FC_ENOUGH}}, {put, {1, 0, 7}}, {DRAIN, {2, FC_ENOUGH}},
+    };
+    for (const struct call *call = calls; call < calls + sizeof calls / sizeof *calls; call++)
+        make_plain_call(&forkcanyon, *call, table);
+    fc_look(2, 0, table, sizeof table, reply, sizeof reply);
+    return fc_read(reply).value;
+}
+
 int main(int argc, char **argv)
 {
-    if (argc != 3) {
-        fputs("agree SEED STEPS\n", stderr);
+    uint64_t enough = argc == 3 ? strtoull(argv[2], NULL, 10) : 0;
+    if (enough < 2000) {
+        fputs("agree SEED STEPS, of which 2000 or more show something\n", stderr);
         return 2;
     }
     rng.state = strtoull(argv[1], NULL, 10);
     chain_of_three();
-    for (uint64_t enough = strtoull(argv[2], NULL, 10); seen.steps < enough;)
+    while (seen.steps < enough)
         walk(300);
     printf("engines: %llu steps on both, every code, answer, entry and applied count the same: %llu opens, %llu "
            "refusals, %llu drains, %llu entries\n",
@@ -207,6 +223,10 @@ int main(int argc, char **argv)
     }
     if (told_to_site_3(PUT) != (1 << 0 | 1 << 1) || told_to_site_3(SHORT_PUT) != 1 << 1) {
         puts("engines: FAILED: on a mixed table, what is named is not what the header says");
+        return 1;
+    }
+    if (held_by_site_2(PUT) != 7 || held_by_site_2(SHORT_PUT) != 6) {
+        puts("engines: FAILED: on a mixed table, what a site ends with is not what the header says");
         return 1;
     }
     return 0;

@@ -110,14 +110,45 @@ uint32_t __wrap_fc_short_drain(uint64_t site, uint64_t budget, uint8_t *table, s
     return __real_fc_short_drain(site, budget > 0 ? budget - 1 : 0, table, table_len, reply, reply_len);
 }
 
+#elif defined WRONG_RANKS
+
+uint32_t __wrap_fc_short_deliver(uint64_t, uint64_t, uint8_t *, size_t, uint8_t *, size_t);
+
+/* A delivery that replaces by rank, as ours. */
+uint32_t __wrap_fc_short_deliver(uint64_t site, uint64_t origin, uint8_t *table, size_t table_len, uint8_t *reply,
+                                 size_t reply_len)
+{
+    return fc_deliver(site, origin, table, table_len, reply, reply_len);
+}
+
+#elif defined WRONG_LEARNS
+
+uint32_t __real_fc_short_put(uint64_t, uint64_t, uint32_t, uint8_t *, size_t, uint8_t *, size_t);
+uint32_t __wrap_fc_short_put(uint64_t, uint64_t, uint32_t, uint8_t *, size_t, uint8_t *, size_t);
+
+/* A put that first takes on what it overwrites, as ours. */
+uint32_t __wrap_fc_short_put(uint64_t site, uint64_t key, uint32_t value, uint8_t *table, size_t table_len,
+                             uint8_t *reply, size_t reply_len)
+{
+    fc_short_get(site, key, table, table_len, reply, reply_len);
+    return __real_fc_short_put(site, key, value, table, table_len, reply, reply_len);
+}
+
 #else
 
-/* Long lists under the names of short ones: the two agree, and show nothing. */
+/* Calls with long lists under the names of short ones: of the second program, by the steps before request (e), they agree
+   with it and show nothing; ours do not agree. */
+#ifdef WRONG_LONG
+#define INSTEAD(name) twin_long_##name
+#else
+#define INSTEAD(name) fc_##name
+#endif
 #define LONG(name, parameters, ...) \
+    uint32_t INSTEAD(name)(parameters, uint8_t *, size_t, uint8_t *, size_t); \
     uint32_t __wrap_fc_short_##name(parameters, uint8_t *, size_t, uint8_t *, size_t); \
     uint32_t __wrap_fc_short_##name(parameters, uint8_t *table, size_t table_len, uint8_t *reply, size_t reply_len) \
     { \
-        return fc_##name(__VA_ARGS__, table, table_len, reply, reply_len); \
+        return INSTEAD(name)(__VA_ARGS__, table, table_len, reply, reply_len); \
     }
 #define COMMA ,
 LONG(put, uint64_t site COMMA uint64_t key COMMA uint32_t value, site, key, value)

@@ -2,21 +2,24 @@
 
 #include <stdlib.h>
 
-two_numbers twin_open, twin_get, twin_look, twin_deliver, twin_drain, twin_short_get, twin_short_deliver, twin_short_drain;
-put_call twin_put, twin_short_put;
-four_numbers twin_adopt, twin_short_adopt;
-five_numbers twin_touch, twin_short_touch;
+two_numbers twin_open, twin_look;
+two_numbers twin_get, twin_deliver, twin_drain, twin_short_get, twin_short_deliver, twin_short_drain;
+two_numbers twin_long_get, twin_long_deliver, twin_long_drain;
+put_call twin_put, twin_short_put, twin_long_put;
+four_numbers twin_adopt, twin_short_adopt, twin_long_adopt;
+five_numbers twin_touch, twin_short_touch, twin_long_touch;
 three_buffers twin_cold;
 
 #define ENGINE(in) \
     {.get = in##_get, .deliver = in##_deliver, .drain = in##_drain, .put = in##_put, .adopt = in##_adopt, \
      .touch = in##_touch}
-#define LIBRARY(title, in) \
-    {.name = title, .open = in##_open, .look = in##_look, .cold = in##_cold, .long_lists = ENGINE(in), \
+#define LIBRARY(title, in, engine) \
+    {.name = title, .open = in##_open, .look = in##_look, .cold = in##_cold, .ours = ENGINE(engine), \
      .short_lists = ENGINE(in##_short)}
 
-const struct library forkcanyon = LIBRARY("forkcanyon", fc);
-const struct library twin = LIBRARY("twin", twin);
+const struct library forkcanyon = LIBRARY("forkcanyon", fc, fc);
+const struct library twin = LIBRARY("twin", twin, twin);
+const struct library before = LIBRARY("before", twin, twin_long);
 const char *const kind_names[KINDS] = {"open", "put", "get", "look", "adopt", "deliver", "drain", "touch", "cold",
                                        "short_put", "short_get", "short_adopt", "short_deliver", "short_drain",
                                        "short_touch"};
@@ -41,7 +44,7 @@ enum kind with_short_lists(enum kind kind)
 
 uint32_t make_call(const struct library *library, const struct call *call, const struct buffers *lent)
 {
-    const struct engine *engine = is_short(call->kind) ? &library->short_lists : &library->long_lists;
+    const struct engine *engine = is_short(call->kind) ? &library->short_lists : &library->ours;
     const uint64_t *number = call->numbers;
     struct lent table = lent->table, list = lent->list, reply = lent->reply;
     two_numbers *chosen = NULL;

@@ -35,7 +35,7 @@ typedef uint32_t four_numbers(uint64_t, uint64_t, uint64_t, uint64_t, uint8_t *,
 typedef uint32_t five_numbers(uint64_t, uint64_t, uint64_t, uint64_t, uint64_t, uint8_t *, size_t, uint8_t *, size_t);
 typedef uint32_t three_buffers(uint64_t, uint64_t, uint64_t, uint8_t *, size_t, uint8_t *, size_t, uint8_t *, size_t);
 
-/* The calls that there are with long lists and with short ones. */
+/* The calls that there are of ours, and again with short lists. */
 struct engine {
     two_numbers *get, *deliver, *drain;
     put_call *put;
@@ -47,13 +47,14 @@ struct library {
     const char *name;
     two_numbers *open, *look;
     three_buffers *cold;
-    struct engine long_lists, short_lists;
+    struct engine ours, short_lists;
 };
 
-extern const struct library forkcanyon, twin;
+/* Before: the second program, whose ours are by the steps before request (e). Short lists agree with these. */
+extern const struct library forkcanyon, twin, before;
 extern const char *const kind_names[KINDS];
 
-/* The call with long lists that has the same arguments; of a call that both engines share, itself. */
+/* Our call that has the same arguments; of a call that both engines share, itself. */
 enum kind namesake(enum kind kind);
 
 /* The call that stands for this one where lists are short. */

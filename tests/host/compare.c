@@ -109,7 +109,7 @@ static void compare(struct call call, struct lengths length)
         complain(what, &call, ours, twins, length);
     calls += 1;
     if (length.reply == FC_REPLY_BYTES)
-        met_note(&met, &call, ours.code, ours.reply, memcmp(held, ours.table, length.table) != 0);
+        met_note(&met, &call, held, ours, memcmp(held, ours.table, length.table) != 0);
     memcpy(held, ours.table, length.table);
 }
 
@@ -215,7 +215,7 @@ int main(int argc, char **argv)
     for (int short_lists = 0; short_lists < 2; short_lists++) {
         const char *what = broken_by_a_look_or_an_adopt(short_lists, &met.engines[short_lists].threes);
         if (what != NULL) {
-            printf("host: FAILED: %s lists: %s\n", short_lists ? "short" : "long", what);
+            printf("host: FAILED: %s: %s\n", short_lists ? "short lists" : "ours", what);
             return 1;
         }
     }

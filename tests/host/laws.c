@@ -21,6 +21,17 @@ static unsigned undelivered(const uint8_t *table, size_t site)
     return sum;
 }
 
+/* So many tries of single deliveries: round the other origins, at each until one is refused. */
+static void deliver_round(const struct call *drain, unsigned tries, uint8_t *table)
+{
+    uint64_t site = drain->numbers[0];
+    for (uint64_t origin = 0; tries > 0; origin = (origin + 1) % table[0]) {
+        const struct call deliver = {is_short(drain->kind) ? SHORT_DELIVER : DELIVER, {site, origin}};
+        for (bool goes_on = origin != site; goes_on && tries > 0; tries--)
+            goes_on = make_plain_call(&forkcanyon, deliver, table) == FC_OK;
+    }
+}
+
 static const char *broken_by_drain(enum start start, const struct call *call, const uint8_t *before,
                                    struct outcome after)
 {
@@ -38,7 +49,10 @@ static const char *broken_by_drain(enum start start, const struct call *call, co
         return "a budget of 903 is always enough";
     if (after.code == FC_OK && start == REACHED && undelivered(after.table, site) > 0)
         return "a drain that answers 0 has left the site holding every accepted put";
-    return NULL;
+    uint8_t table[FC_TABLE_BYTES];
+    memcpy(table, before, sizeof table);
+    deliver_round(call, answer.value, table);
+    return memcmp(table, after.table, sizeof table) == 0 ? NULL : "a drain leaves what its deliveries do, one by one";
 }
 
 bool out_of_range(const struct call *call, size_t list_len)
@@ -177,29 +191,92 @@ static const char *broken_by_adopt(const struct call *call, const uint8_t *befor
 /* On one table, so beside 10 too: what differs there is what the two kinds of calls have left before. */
 static const char *broken_by_short_lists(const struct call *call, const uint8_t *before, struct outcome after)
 {
-    uint8_t table[FC_TABLE_BYTES], reply[FC_REPLY_BYTES], list[VECTOR];
+    uint8_t table[FC_TABLE_BYTES], reply[FC_REPLY_BYTES];
     struct call plain = *call;
     plain.kind = namesake(call->kind);
     memcpy(table, before, sizeof table);
     if (answered(plain, table, reply) != after.code || memcmp(reply, after.reply, sizeof reply) != 0)
         return "a short call answers as its namesake on the same table";
-    if (after.code == FC_OK && plain.kind != DELIVER && plain.kind != DRAIN) {
-        size_t site = call->numbers[0], row = depends_at(site, 0), entry = entry_at(site, call->numbers[1]);
-        memcpy(list, before + row, VECTOR);
-        unsigned origin = before[entry + RECORD_NAME], clock = clock_at(before, entry + RECORD_CLOCK);
-        if (plain.kind != PUT && clock > clock_at(list, 2 * origin))
-            set_clock(list, 2 * origin, clock);
-        if (plain.kind == PUT || plain.kind == TOUCH) {
-            unsigned made = fc_read(reply).clock;
-            memcpy(table + update_at(site, made) + RECORD_VECTOR, list, VECTOR);
-            memset(list, 0, VECTOR);
-            set_clock(list, 2 * site, made);
-        }
-        memcpy(table + row, list, VECTOR);
-    }
-    return memcmp(table, after.table, sizeof table) == 0
+    if (after.code != FC_OK || (plain.kind != GET && plain.kind != ADOPT))
+        return NULL;
+    size_t entry = entry_at(call->numbers[0], call->numbers[1]);
+    size_t column = depends_at(call->numbers[0], before[entry + RECORD_NAME]);
+    memcpy(table, before, sizeof table);
+    if (clock_at(before, entry + RECORD_CLOCK) > clock_at(before, column))
+        set_clock(table, column, clock_at(before, entry + RECORD_CLOCK));
+    return memcmp(table, after.table, sizeof table) == 0 ? NULL : "a get with short lists adds the one pair it read";
+}
+
+/* What the site depends on before, as a get of the key leaves it: with short lists a put takes on nothing. */
+static void row_to_send(const struct call *put, const uint8_t *before, uint8_t *row)
+{
+    uint8_t table[FC_TABLE_BYTES];
+    memcpy(table, before, sizeof table);
+    if (!is_short(put->kind))
+        make_plain_call(&forkcanyon, (struct call){GET, {put->numbers[0], put->numbers[1]}}, table);
+    memcpy(row, table + depends_at(put->numbers[0], 0), VECTOR);
+}
+
+static const char *broken_by_put(const struct call *call, const uint8_t *before, struct outcome after)
+{
+    static const uint8_t zeros[VECTOR];
+    size_t site = call->numbers[0], entry = entry_at(site, call->numbers[1]);
+    unsigned clock = fc_read(after.reply).clock;
+    uint8_t sent[VECTOR], row[VECTOR];
+    row_to_send(call, before, sent);
+    if (memcmp(after.table + update_at(site, clock) + RECORD_VECTOR, sent, VECTOR) != 0)
+        return is_short(call->kind) ? "a put with short lists sends the list of its site"
+                                    : "a put first takes on the dependence of the entry it overwrites, as a get would";
+    if (memcmp(after.table + entry + RECORD_VECTOR, is_short(call->kind) ? zeros : sent, VECTOR) != 0)
+        return is_short(call->kind) ? "an own put with short lists is stored with zeros"
+                                    : "an own put is stored with its update's vector";
+    memcpy(row, is_short(call->kind) ? zeros : sent, VECTOR);
+    if (clock > clock_at(row, 2 * site))
+        set_clock(row, 2 * site, clock);
+    return memcmp(after.table + depends_at(site, 0), row, VECTOR) == 0
                ? NULL
-               : "a short call leaves what its namesake does, but a get adds one pair and a put leaves its own alone";
+               : "after a put its site depends on it, and on what it sent unless lists are short";
+}
+
+/* The sum of the columns of a record's vector. */
+static unsigned rank_at(const uint8_t *table, size_t record)
+{
+    unsigned sum = 0;
+    for (size_t column = 0; column < FC_SITES; column++)
+        sum += clock_at(table, record + RECORD_VECTOR + 2 * column);
+    return sum;
+}
+
+enum meeting meeting_of(const struct call *delivery, const uint8_t *before, const uint8_t *reply)
+{
+    struct fc_answer answer = fc_read(reply);
+    size_t entry = entry_at(delivery->numbers[0], answer.key), update = update_at(answer.site, answer.clock);
+    unsigned held = rank_at(before, entry), comes = rank_at(before, update);
+    if (clock_at(before, entry + RECORD_CLOCK) == 0)
+        return NEVER_WRITTEN;
+    if (held != comes)
+        return comes > held ? HIGHER_RANK : LOWER_RANK;
+    return answer.site >= before[entry + RECORD_NAME] ? ORIGIN_NOT_LOWER : LOWER_ORIGIN;
+}
+
+static const char *broken_by_delivery(const struct call *call, const uint8_t *before, struct outcome after)
+{
+    struct fc_answer answer = fc_read(after.reply);
+    size_t site = call->numbers[0], entry = entry_at(site, answer.key), update = update_at(answer.site, answer.clock);
+    enum meeting meeting = meeting_of(call, before, after.reply);
+    bool replaces = is_short(call->kind) || (meeting != LOWER_RANK && meeting != LOWER_ORIGIN);
+    uint8_t table[FC_TABLE_BYTES];
+    memcpy(table, before, sizeof table);
+    set_clock(table, applied_at(site, answer.site), answer.clock);
+    if (replaces) {
+        memcpy(table + entry, before + update, RECORD);
+        table[entry + RECORD_NAME] = answer.site;
+        table[entry + RECORD_NAME + 1] = 0;
+    }
+    if (memcmp(table, after.table, sizeof table) == 0)
+        return NULL;
+    return replaces ? "a delivery replaces the entry if never written, by a higher rank or an equal one of an origin not lower"
+                    : "otherwise only the applied count rises";
 }
 
 /* Reader has the put of origin's, reads it this way and puts another key: what third answers. */
@@ -285,9 +362,11 @@ const char *broken_law(enum start start, const struct call *call, const uint8_t 
         return broken_by_adopt(call, before, after);
     if (after.code != FC_OK && after.code != FC_BUDGET)
         return NULL;
-    if (kind == DELIVER && memcmp(before + DEPENDS, after.table + DEPENDS, STORE - DEPENDS) != 0)
-        return "a delivery does not change what the site depends on";
     switch (kind) {
+    case PUT:
+        return broken_by_put(call, before, after);
+    case DELIVER:
+        return broken_by_delivery(call, before, after);
     case DRAIN:
         return broken_by_drain(start, call, before, after);
     case COLD:

@@ -20,6 +20,11 @@ bool out_of_range(const struct call *call, size_t list_len);
 /* The sentence that a call on a table and a reply of the right lengths breaks, or NULL. */
 const char *broken_law(enum start start, const struct call *call, const uint8_t *before, struct outcome after);
 
+/* What an accepted delivery meets: why it replaces the entry, or, in the last two, why it does not. */
+enum meeting { NEVER_WRITTEN, HIGHER_RANK, ORIGIN_NOT_LOWER, LOWER_RANK, LOWER_ORIGIN, MEETINGS };
+
+enum meeting meeting_of(const struct call *delivery, const uint8_t *before, const uint8_t *reply);
+
 /* The same of "a look makes no cause until adopted": whether a put waits for what was read, between any three
    sites. It counts them. */
 const char *broken_by_a_look_or_an_adopt(bool short_lists, uint64_t *threes);

@@ -1,6 +1,9 @@
 #include "met.h"
 
+#include "tables.h"
+
 #include <stdio.h>
+#include <string.h>
 
 /* The codes of each call, by documents 01 and 02. */
 static const bool possible[KINDS][CODES] = {
@@ -22,10 +25,18 @@ static bool can_answer(enum kind kind, int code)
     return possible[namesake(kind)][code];
 }
 
-void met_note(struct met *met, const struct call *call, uint32_t code, const uint8_t *reply, bool changed)
+/* Whether an accepted put sends what was not in its site's row. */
+static bool sends_more(const struct call *put, const uint8_t *before, struct outcome after)
 {
+    size_t site = put->numbers[0], update = update_at(site, fc_read(after.reply).clock);
+    return memcmp(before + depends_at(site, 0), after.table + update + RECORD_VECTOR, VECTOR) != 0;
+}
+
+void met_note(struct met *met, const struct call *call, const uint8_t *before, struct outcome after, bool changed)
+{
+    uint32_t code = after.code;
     met->codes[call->kind][code < CODES ? code : CODES - 1] += 1;
-    struct fc_answer answer = fc_read(reply);
+    struct fc_answer answer = fc_read(after.reply);
     struct met_by_engine *engine = &met->engines[is_short(call->kind)];
     enum kind kind = namesake(call->kind);
     engine->never_written += kind == GET && code == FC_OK && answer.clock == 0;
@@ -37,6 +48,9 @@ void met_note(struct met *met, const struct call *call, uint32_t code, const uin
     engine->stopped_late += kind == DRAIN && code == FC_BUDGET && answer.clock > 0;
     engine->hours_kept += kind == TOUCH && code == FC_OK &&
                           (fc_toucher(answer.value) == FC_BY_SCAN || fc_toucher(answer.value) == FC_BY_MIGRATION);
+    if (kind == DELIVER && code == FC_OK)
+        engine->meetings[meeting_of(call, before, after.reply)] += 1;
+    engine->sent_more += kind == PUT && code == FC_OK && sends_more(call, before, after);
     met->looked += kind == LOOK && code == FC_OK && answer.clock > 0;
     unsigned waited = 0;
     for (unsigned site = 0; site < FC_SITES; site++) {
@@ -52,10 +66,13 @@ void met_note(struct met *met, const struct call *call, uint32_t code, const uin
 bool met_all(const struct met *met)
 {
     bool all = met->looked && met->listed && met->ahead && met->malformed && !met->waits[0];
+    all = all && met->engines[false].sent_more && !met->engines[true].sent_more;
     for (const struct met_by_engine *engine = met->engines; engine < met->engines + 2; engine++)
         all = all && engine->never_written && engine->learned && engine->adopted_none && engine->adopted &&
               engine->wide_clocks && engine->delivered && engine->stopped_late && engine->hours_kept &&
               engine->threes == FC_SITES * (FC_SITES - 1) * (FC_SITES - 2);
+    for (int meeting = 0; meeting < MEETINGS; meeting++)
+        all = all && met->engines[false].meetings[meeting] && met->engines[true].meetings[meeting];
     for (unsigned site = 0; site < FC_SITES; site++)
         all = all && met->waits_for[site];
     for (unsigned sites = 1; sites < 5; sites++)
@@ -66,16 +83,21 @@ bool met_all(const struct met *met)
     return all;
 }
 
-static void print_engine(const char *lists, const struct met_by_engine *engine)
+static void print_engine(const char *calls, const struct met_by_engine *engine)
 {
-    printf("%s lists: gets of a never-written key %llu, gets that change the list %llu, drains of more than 8 %llu, "
+    printf("%s: gets of a never-written key %llu, gets that change the list %llu, drains of more than 8 %llu, "
            "drains stopped after a delivery %llu,\n",
-           lists, (unsigned long long)engine->never_written, (unsigned long long)engine->learned,
+           calls, (unsigned long long)engine->never_written, (unsigned long long)engine->learned,
            (unsigned long long)engine->delivered, (unsigned long long)engine->stopped_late);
     printf("  adopts of a never-written key %llu, adopts that change the list %llu, adopts of a clock above 65,535 "
            "%llu, touches that keep the hour %llu\n",
            (unsigned long long)engine->adopted_none, (unsigned long long)engine->adopted,
            (unsigned long long)engine->wide_clocks, (unsigned long long)engine->hours_kept);
+    printf("  puts that send more than the row %llu, deliveries that meet a never-written key %llu, a lower rank %llu, an "
+           "equal one %llu,\n  a higher one %llu, an equal one of a higher origin %llu\n",
+           (unsigned long long)engine->sent_more, (unsigned long long)engine->meetings[NEVER_WRITTEN],
+           (unsigned long long)engine->meetings[HIGHER_RANK], (unsigned long long)engine->meetings[ORIGIN_NOT_LOWER],
+           (unsigned long long)engine->meetings[LOWER_RANK], (unsigned long long)engine->meetings[LOWER_ORIGIN]);
 }
 
 void met_print(const struct met *met)
@@ -93,8 +115,8 @@ void met_print(const struct met *met)
         }
     }
     putchar('\n');
-    print_engine("long", &met->engines[false]);
-    print_engine("short", &met->engines[true]);
+    print_engine("ours", &met->engines[false]);
+    print_engine("short lists", &met->engines[true]);
     printf("looks of a written key %llu, cold lists with a key %llu, with a clock ahead %llu, "
            "with a malformed value %llu\n",
            (unsigned long long)met->looked, (unsigned long long)met->listed, (unsigned long long)met->ahead,

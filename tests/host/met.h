@@ -2,15 +2,15 @@
 #ifndef MET_H
 #define MET_H
 
-#include "calls.h"
-
-#include <stdbool.h>
+#include "laws.h"
 
 enum { CODES = 17 }; /* no call may answer 12, a schedule's, nor the last, which stands for anything beyond 15 */
 
-/* What is met with long lists and again with short ones. */
+/* What is met with our calls and again with short lists. */
 struct met_by_engine {
     uint64_t never_written, learned, delivered, stopped_late;
+    uint64_t sent_more; /* puts that send what was not in the row before */
+    uint64_t meetings[MEETINGS];
     uint64_t adopted_none, adopted, wide_clocks, hours_kept;
     uint64_t threes; /* any three sites, tried with a look and with an adopt */
 };
@@ -23,8 +23,8 @@ struct met {
     uint64_t waits_for[FC_SITES];
 };
 
-/* Notes a call whose reply is whole; changed: whether the table did. */
-void met_note(struct met *met, const struct call *call, uint32_t code, const uint8_t *reply, bool changed);
+/* Notes a call whose reply is whole; changed: whether the table did. The table before is read where it was accepted. */
+void met_note(struct met *met, const struct call *call, const uint8_t *before, struct outcome after, bool changed);
 bool met_all(const struct met *met);
 void met_print(const struct met *met);
 

@@ -91,6 +91,14 @@ class Tool(unittest.TestCase):
         self.assertTrue(lines[5].endswith("refused: waits for site 0, clock 1"))
         self.assertEqual(lines[8].strip(), "end 7")
 
+    def test_play_says_of_a_delivery_what_was_applied_and_of_a_get_what_is_held(self):
+        crossed = b"sites 2 keys 1\nput 0 0 5\nput 1 0 6\ndeliver 1 0\ndeliver 0 1\nget 0 0\nget 1 0\n"
+        lines = run_tool("sched", "play", data=crossed).stdout.decode().splitlines()
+        self.assertTrue(lines[3].endswith("applied put 1 of site 0: key 0, value 5"), lines[3])
+        self.assertTrue(lines[4].endswith("applied put 1 of site 1: key 0, value 6"), lines[4])
+        for held in lines[5:7]:
+            self.assertTrue(held.endswith("key 0 is 6, put 1 of site 1"), held)
+
     def test_play_names_every_site_waited_for(self):
         lines = run_tool("sched", "play", str(ROOT / "docs" / "waits.sched")).stdout.decode().splitlines()
         self.assertTrue(lines[10].endswith("refused: waits for site 0, clock 1, and for sites 1 and 2"), lines[10])

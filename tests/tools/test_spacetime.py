@@ -45,6 +45,12 @@ class Pictures(unittest.TestCase):
         self.assertEqual(dashed[2], dashed[4])
         self.assertEqual(len(set(dashed)), 3)
 
+    def test_two_puts_that_cross_have_one_winner(self):
+        run = drawn("sites 2 keys 1\nput 0 0 5\nput 1 0 6\ndeliver 1 0\ndeliver 0 1\nget 0 0\nget 1 0\n")
+        found = words_in(run.stdout)
+        # Both are delivered, and both sites then hold the same.
+        self.assertEqual([found.count(words) for words in ("key 0 of 0:1", "key 0 of 1:1", "6 of 1:1")], [1, 1, 2])
+
     def test_a_cause_that_waits_itself(self):
         chain = "put 0 0 1\nput 0 0 2\ndrain 1\nget 1 0\nput 1 1 3\ndrain 2\nget 2 1\nput 2 2 4\ndeliver 3 2\n"
         picture = drawn("sites 4 keys 3\n" + chain).stdout

@@ -30,10 +30,13 @@ pub fn put_at(table: &mut Table, engine: Engine, site: usize, key: usize, value:
     if (0..table.sites()).any(|other| usize::from(clock - table.applied(other, site)) > PLACES) {
         return Err(Answer::refused(Code::NoRoom));
     }
-    // The dependency row goes into the update as it was before the put.
+    if engine.put_gets_first() {
+        get_at(table, engine, site, key);
+    }
+    // The dependency row goes into the update as it was before the put itself.
     let depends = table.depends_row(site);
     table.set_update(site, Record { value, name: key as u8, clock, depends });
-    table.set_entry(site, key, Record { value, name: site as u8, clock, depends: [0; SITES] });
+    table.set_entry(site, key, Record { value, name: site as u8, clock, depends: engine.own_vector(depends) });
     table.set_applied(site, site, clock);
     table.set_depends_row(site, engine.after_put(depends, site, clock));
     Ok(Answer::accepted(key as u8, site as u8, clock, value))
@@ -88,18 +91,18 @@ pub fn get_at(table: &mut Table, engine: Engine, site: usize, key: usize) -> Opt
     Some(entry)
 }
 
-pub fn deliver(table: &mut Table, site: u64, origin: u64) -> Outcome {
+pub fn deliver(table: &mut Table, engine: Engine, site: u64, origin: u64) -> Outcome {
     demand_sound(table)?;
     let site = named_site(table, site)?;
     let origin = named_site(table, origin)?;
     if site == origin {
         return Err(Answer::refused(Code::SameSite));
     }
-    try_delivery(table, site, origin)
+    try_delivery(table, engine, site, origin)
 }
 
 /// One delivery on a sound table between two of its sites.
-pub fn try_delivery(table: &mut Table, site: usize, origin: usize) -> Outcome {
+pub fn try_delivery(table: &mut Table, engine: Engine, site: usize, origin: usize) -> Outcome {
     let applied = table.applied_row(site);
     if applied[origin] == table.applied(origin, origin) {
         return Err(Answer::refused(Code::NothingNew));
@@ -114,7 +117,11 @@ pub fn try_delivery(table: &mut Table, site: usize, origin: usize) -> Outcome {
         let waits = Answer::refused(Code::CauseMissing);
         return Err(Answer { site: lowest as u8, clock: update.depends[lowest], value: mask, ..waits });
     }
-    table.set_entry(site, update.name.into(), Record { name: origin as u8, clock, ..update });
+    let key = update.name.into();
+    if engine.replaces(look_at(table, site, key).as_ref(), &update, origin) {
+        table.set_entry(site, key, Record { name: origin as u8, clock, ..update });
+    }
+    // "Otherwise only the applied count rises."
     table.set_applied(site, origin, clock);
     Ok(Answer::accepted(update.name, origin as u8, clock, update.value))
 }

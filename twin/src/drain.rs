@@ -2,9 +2,10 @@
 
 use crate::answer::{Answer, Code, Outcome};
 use crate::calls::{demand_sound, named_site, try_delivery};
+use crate::engine::Engine;
 use crate::table::Table;
 
-pub fn drain(table: &mut Table, site: u64, budget: u64) -> Outcome {
+pub fn drain(table: &mut Table, engine: Engine, site: u64, budget: u64) -> Outcome {
     demand_sound(table)?;
     let site = named_site(table, site)?;
     // "A budget above 65,535 counts as 65,535."
@@ -18,7 +19,7 @@ pub fn drain(table: &mut Table, site: u64, budget: u64) -> Outcome {
                     return Err(Answer { code: Code::BudgetSpent, ..made });
                 }
                 made.value += 1;
-                if try_delivery(table, site, origin).is_err() {
+                if try_delivery(table, engine, site, origin).is_err() {
                     break;
                 }
                 made.clock += 1;

@@ -41,3 +41,9 @@ exported!(twin_short_adopt, crate::short::adopt, site: u64, key: u64, origin: u6
 exported!(twin_short_deliver, crate::short::deliver, site: u64, origin: u64);
 exported!(twin_short_drain, crate::short::drain, site: u64, budget: u64);
 exported!(twin_short_touch, crate::short::touch, site: u64, key: u64, now: u64, toucher: u64, tier: u64);
+exported!(twin_long_put, crate::long::put, site: u64, key: u64, value: u32);
+exported!(twin_long_get, crate::long::get, site: u64, key: u64);
+exported!(twin_long_adopt, crate::long::adopt, site: u64, key: u64, origin: u64, clock: u64);
+exported!(twin_long_deliver, crate::long::deliver, site: u64, origin: u64);
+exported!(twin_long_drain, crate::long::drain, site: u64, budget: u64);
+exported!(twin_long_touch, crate::long::touch, site: u64, key: u64, now: u64, toucher: u64, tier: u64);

@@ -1,6 +1,7 @@
 //! A second Forkcanyon: the table of documents 01 and 02 and its calls, written from these documents alone.
 //!
-//! Every call takes any numbers and any buffers, writes the reply and returns its code.
+//! Every call takes any numbers and any buffers, writes the reply and returns its code. Opening, a look and a cold list
+//! know no engine.
 
 mod answer;
 mod calls;
@@ -9,30 +10,75 @@ mod drain;
 mod engine;
 mod host;
 mod schedule;
-pub mod short;
 mod sound;
 mod table;
 mod touch;
 
 pub use answer::{Answer, Code, REPLY_BYTES};
 pub use cold::LIST_BYTES;
-use engine::Engine::Long;
+use engine::Engine::Ranked;
 pub use schedule::listing;
 pub use table::{Table, KEYS, PLACES, SITES, TABLE_BYTES};
+
+/// The calls that depend on the engine.
+macro_rules! calls_with {
+    ($engine:expr) => {
+        /// Writes a value at a site.
+        pub fn put(site: u64, key: u64, value: u32, table: &mut [u8], reply: &mut [u8]) -> u32 {
+            crate::edge(table, reply, |table| crate::calls::put(table, $engine, site, key, value))
+        }
+
+        /// Reads a key at a site; what the site puts afterwards depends on what was read.
+        pub fn get(site: u64, key: u64, table: &mut [u8], reply: &mut [u8]) -> u32 {
+            crate::edge(table, reply, |table| crate::calls::get(table, $engine, site, key))
+        }
+
+        /// Reads a key at a site as a get does, if it still holds the put of that origin and clock.
+        pub fn adopt(site: u64, key: u64, origin: u64, clock: u64, table: &mut [u8], reply: &mut [u8]) -> u32 {
+            crate::edge(table, reply, |table| crate::calls::adopt(table, $engine, site, key, origin, clock))
+        }
+
+        /// Applies at a site the next update of an origin, if nothing it depends on is missing.
+        pub fn deliver(site: u64, origin: u64, table: &mut [u8], reply: &mut [u8]) -> u32 {
+            crate::edge(table, reply, |table| crate::calls::deliver(table, $engine, site, origin))
+        }
+
+        /// Delivers to a site all that can be, within a budget of tries.
+        pub fn drain(site: u64, budget: u64, table: &mut [u8], reply: &mut [u8]) -> u32 {
+            crate::edge(table, reply, |table| crate::drain::drain(table, $engine, site, budget))
+        }
+
+        /// Gets a key and puts a touch record in its place.
+        pub fn touch(
+            site: u64,
+            key: u64,
+            now: u64,
+            toucher: u64,
+            tier: u64,
+            table: &mut [u8],
+            reply: &mut [u8],
+        ) -> u32 {
+            let asked = crate::touch::asked(now, toucher, tier);
+            crate::edge_asked(asked, table, reply, |asked, table| crate::touch::touch(table, $engine, site, key, asked))
+        }
+    };
+}
+
+calls_with!(Ranked);
+
+/// With short lists, on a table opened as any other: a put leaves itself alone in its site's list, a get adds one pair.
+pub mod short {
+    calls_with!(crate::engine::Engine::Short);
+}
+
+/// By the steps before request (e): what short lists agree with.
+pub mod long {
+    calls_with!(crate::engine::Engine::Long);
+}
 
 /// Opens a table for so many sites and keys; whatever the buffer held is gone.
 pub fn open(sites: u64, keys: u64, table: &mut [u8], reply: &mut [u8]) -> u32 {
     edge(table, reply, |table| calls::open(table, sites, keys))
-}
-
-/// Writes a value at a site.
-pub fn put(site: u64, key: u64, value: u32, table: &mut [u8], reply: &mut [u8]) -> u32 {
-    edge(table, reply, |table| calls::put(table, Long, site, key, value))
-}
-
-/// Reads a key at a site; what the site puts afterwards depends on what was read.
-pub fn get(site: u64, key: u64, table: &mut [u8], reply: &mut [u8]) -> u32 {
-    edge(table, reply, |table| calls::get(table, Long, site, key))
 }
 
 /// Reads a key at a site and changes nothing.
@@ -40,31 +86,10 @@ pub fn look(site: u64, key: u64, table: &mut [u8], reply: &mut [u8]) -> u32 {
     edge(table, reply, |table| calls::look(table, site, key))
 }
 
-/// Reads a key at a site as a get does, if it still holds the put of that origin and clock.
-pub fn adopt(site: u64, key: u64, origin: u64, clock: u64, table: &mut [u8], reply: &mut [u8]) -> u32 {
-    edge(table, reply, |table| calls::adopt(table, Long, site, key, origin, clock))
-}
-
-/// Applies at a site the next update of an origin, if nothing it depends on is missing.
-pub fn deliver(site: u64, origin: u64, table: &mut [u8], reply: &mut [u8]) -> u32 {
-    edge(table, reply, |table| calls::deliver(table, site, origin))
-}
-
-/// Delivers to a site all that can be, within a budget of tries.
-pub fn drain(site: u64, budget: u64, table: &mut [u8], reply: &mut [u8]) -> u32 {
-    edge(table, reply, |table| drain::drain(table, site, budget))
-}
-
 /// Lists the keys that have been cold at a site for the threshold or longer; changes nothing.
 pub fn cold(site: u64, now: u64, threshold: u64, table: &mut [u8], list: &mut [u8], reply: &mut [u8]) -> u32 {
     let asked = cold::asked(now, threshold, list);
     edge_asked(asked, table, reply, |asked, table| cold::cold(table, site, asked))
-}
-
-/// Gets a key and puts a touch record in its place.
-pub fn touch(site: u64, key: u64, now: u64, toucher: u64, tier: u64, table: &mut [u8], reply: &mut [u8]) -> u32 {
-    let asked = touch::asked(now, toucher, tier);
-    edge_asked(asked, table, reply, |asked, table| touch::touch(table, Long, site, key, asked))
 }
 
 fn edge(table: &mut [u8], reply: &mut [u8], call: impl FnOnce(&mut Table) -> answer::Outcome) -> u32 {

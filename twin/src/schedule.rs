@@ -1,7 +1,7 @@
 //! Playing a schedule: steps of 48 bits, one printed line each.
 
 use crate::answer::{told, Answer, Code, Outcome};
-use crate::engine::Engine::Long;
+use crate::engine::Engine::Ranked;
 use crate::table::{Table, TABLE_BYTES};
 use crate::{calls, drain};
 use std::fmt::Write;
@@ -53,10 +53,10 @@ fn play(table: &mut Table, step: [u8; STEP_BYTES]) -> Outcome {
         return Err(Answer::refused(Code::UnusedField));
     }
     match operation {
-        0 => calls::put(table, Long, site64, key64, value),
-        1 => calls::get(table, Long, site64, key64),
-        2 => calls::deliver(table, site64, origin64),
-        _ => drain::drain(table, site64, DRAIN_BUDGET),
+        0 => calls::put(table, Ranked, site64, key64, value),
+        1 => calls::get(table, Ranked, site64, key64),
+        2 => calls::deliver(table, Ranked, site64, origin64),
+        _ => drain::drain(table, Ranked, site64, DRAIN_BUDGET),
     }
 }
 

@@ -145,3 +145,8 @@ fn clock_bytes(clocks: Clocks) -> [u8; SITES * CLOCK_BYTES] {
 pub fn join(left: Clocks, right: Clocks) -> Clocks {
     std::array::from_fn(|column| left[column].max(right[column]))
 }
+
+/// "A put's rank is the sum of the columns of that vector", all eight of them.
+pub fn rank(vector: Clocks) -> u32 {
+    vector.into_iter().map(u32::from).sum()
+}

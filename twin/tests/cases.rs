@@ -191,13 +191,14 @@ fn a_delivery_names_every_site_it_waits_for() {
 
 #[test]
 fn case_13_two_puts_of_one_key_cross() {
+    // As request (e) amends it: "both sites then hold 6".
     let mut session = opened(2, 2);
     session.put(0, 0, 5);
     session.put(1, 0, 6);
     assert_eq!(session.deliver(1, 0), [0, 0, 0, 1, 5]);
     assert_eq!(session.deliver(0, 1), [0, 0, 1, 1, 6]);
     assert_eq!(session.get(0, 0), [0, 0, 1, 1, 6]);
-    assert_eq!(session.get(1, 0), [0, 0, 0, 1, 5]);
+    assert_eq!(session.get(1, 0), [0, 0, 1, 1, 6]);
 }
 
 #[test]

@@ -1,41 +1,20 @@
-//! Document 02's engine with short lists, beside ours.
+//! Document 02's engine with short lists, beside ours. It and the long lists that it agrees with stay at the steps before
+//! request (e).
 
 mod session;
 
-use session::{opened, refused, Numbers, Session};
+use session::{opened, refused, row, sent, stored, Numbers, Session};
 use twin::{short, REPLY_BYTES, TABLE_BYTES};
 
-type Clocks = [u16; 8];
-
-fn clocks(session: &Session, at: usize) -> Clocks {
-    std::array::from_fn(|column| {
-        u16::from_be_bytes([session.table[at + 2 * column], session.table[at + 2 * column + 1]])
-    })
-}
-
-/// What a site depends on.
-fn row(session: &Session, site: usize) -> Clocks {
-    clocks(session, 132 + 16 * site)
-}
-
-/// The vector of an origin's update, of its first sixteen.
-fn sent(session: &Session, origin: usize, clock: usize) -> Clocks {
-    clocks(session, 12_548 + 24 * (16 * origin + clock - 1) + 8)
-}
-
-/// The vector of an entry.
-fn stored(session: &Session, site: usize, key: usize) -> Clocks {
-    clocks(session, 260 + 24 * (64 * site + key) + 8)
-}
-
-/// The same calls with our lists and with short ones, by name.
+/// The same calls of each engine, by name.
 struct Calls {
     put: fn(&mut Session, u64, u64, u32) -> Numbers,
     get: fn(&mut Session, u64, u64) -> Numbers,
     deliver: fn(&mut Session, u64, u64) -> Numbers,
 }
 
-const LONG: Calls = Calls { put: Session::put, get: Session::get, deliver: Session::deliver };
+const OURS: Calls = Calls { put: Session::put, get: Session::get, deliver: Session::deliver };
+const LONG: Calls = Calls { put: Session::long_put, get: Session::long_get, deliver: Session::long_deliver };
 const SHORT: Calls = Calls { put: Session::short_put, get: Session::short_get, deliver: Session::short_deliver };
 
 /// Site 1 has got 0's put and put another key; site 2 has got that one and put a third. Site 3 has heard of nothing.
@@ -104,8 +83,8 @@ fn a_get_or_an_adopt_adds_the_one_pair_that_it_read() {
 
 #[test]
 fn a_get_does_not_take_on_the_entrys_vector() {
-    let (mut ours, mut short) = (chain_of_three(&LONG), chain_of_three(&SHORT));
-    for (session, calls) in [(&mut ours, &LONG), (&mut short, &SHORT)] {
+    let (mut ours, mut short) = (chain_of_three(&OURS), chain_of_three(&SHORT));
+    for (session, calls) in [(&mut ours, &OURS), (&mut short, &SHORT)] {
         assert_eq!(stored(session, 2, 1), [1, 0, 0, 0, 0, 0, 0, 0]);
         session.drain(3, 903);
         assert_eq!((calls.get)(session, 3, 1), [0, 1, 1, 1, 6]);
@@ -116,14 +95,14 @@ fn a_get_does_not_take_on_the_entrys_vector() {
 
 #[test]
 fn along_a_chain_of_three_sites_short_has_one_pair_and_ours_two() {
-    let (mut ours, mut short) = (chain_of_three(&LONG), chain_of_three(&SHORT));
+    let (mut ours, mut short) = (chain_of_three(&OURS), chain_of_three(&SHORT));
     assert_eq!(sent(&ours, 2, 1), [1, 1, 0, 0, 0, 0, 0, 0]);
     assert_eq!(sent(&short, 2, 1), [0, 1, 0, 0, 0, 0, 0, 0]);
     // Beside a 10, ours names both that are missing, short the immediate one.
     assert_eq!(ours.deliver(3, 2), [10, 0, 0, 1, 0b11]);
     assert_eq!(short.short_deliver(3, 2), [10, 0, 1, 1, 0b10]);
     // 1's put waits for 0's in both, so 2's does too.
-    for (session, calls) in [(&mut ours, &LONG), (&mut short, &SHORT)] {
+    for (session, calls) in [(&mut ours, &OURS), (&mut short, &SHORT)] {
         assert_eq!((calls.deliver)(session, 3, 1), [10, 0, 0, 1, 1]);
         assert_eq!((calls.deliver)(session, 3, 2)[0], 10);
         assert_eq!((calls.deliver)(session, 3, 0), [0, 0, 0, 1, 5]);
@@ -160,6 +139,34 @@ fn a_touch_is_its_get_and_its_put() {
     let before = touched.table.clone();
     assert_eq!(touched.short_touch(2, 0, 9, 1, 1), refused(13));
     assert!(touched.table == before);
+}
+
+#[test]
+fn two_puts_of_one_key_still_cross_and_each_site_keeps_what_came_last() {
+    for (calls, at_1) in [(LONG, [0, 0, 0, 1, 5]), (SHORT, [0, 0, 0, 1, 5]), (OURS, [0, 0, 1, 1, 6])] {
+        let mut session = opened(2, 1);
+        (calls.put)(&mut session, 0, 0, 5);
+        (calls.put)(&mut session, 1, 0, 6);
+        assert_eq!((calls.deliver)(&mut session, 1, 0), [0, 0, 0, 1, 5]);
+        assert_eq!((calls.deliver)(&mut session, 0, 1), [0, 0, 1, 1, 6]);
+        assert_eq!(session.look(0, 0), [0, 0, 1, 1, 6]);
+        assert_eq!(session.look(1, 0), at_1);
+    }
+}
+
+#[test]
+fn a_put_takes_on_nothing_and_is_stored_with_zeros() {
+    for calls in [LONG, SHORT] {
+        let mut session = opened(2, 1);
+        (calls.put)(&mut session, 0, 0, 5);
+        (calls.deliver)(&mut session, 1, 0);
+        // It overwrites 0's put, which site 1 has not got.
+        (calls.put)(&mut session, 1, 0, 6);
+        assert_eq!((sent(&session, 1, 1), stored(&session, 1, 0)), ([0; 8], [0; 8]));
+        // The next one sends the pair of the first, and is stored with zeros all the same.
+        (calls.put)(&mut session, 1, 0, 7);
+        assert_eq!((sent(&session, 1, 2), stored(&session, 1, 0)), ([0, 1, 0, 0, 0, 0, 0, 0], [0; 8]));
+    }
 }
 
 /// Each short call and its namesake, with the same numbers.
@@ -245,4 +252,19 @@ fn second_put_of_site_1_by(put: fn(&mut Session, u64, u64, u32) -> Numbers) -> S
 fn on_a_table_of_both_kinds_of_calls_ours_no_longer_name_all_that_is_missing() {
     assert_eq!(second_put_of_site_1_by(Session::put).deliver(3, 2), [10, 0, 0, 1, 0b11]);
     assert_eq!(second_put_of_site_1_by(Session::short_put).deliver(3, 2), [10, 0, 1, 2, 0b10]);
+}
+
+#[test]
+fn on_a_table_of_both_kinds_of_calls_a_put_can_lose_to_the_one_it_overwrote() {
+    let put: fn(&mut Session, u64, u64, u32) -> Numbers = Session::put;
+    for (put, at_2) in [(put, [0, 0, 1, 1, 7]), (Session::short_put, [0, 0, 0, 2, 6])] {
+        let mut session = opened(3, 1);
+        session.put(0, 0, 5);
+        session.put(0, 0, 6);
+        session.drain(1, 903);
+        put(&mut session, 1, 0, 7);
+        session.drain(2, 903);
+        assert_eq!(session.look(1, 0), [0, 0, 1, 1, 7]);
+        assert_eq!(session.look(2, 0), at_2);
+    }
 }

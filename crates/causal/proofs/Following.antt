@@ -23,12 +23,12 @@ use Rattle.laws.proofs.Given.{run-cases, run-refused}
 use Rattle.laws.proofs.Codes.{code-first, missing-named}
 use Rattle.laws.proofs.Keeps.{put-sound, get-origin, get-sound, deliver-sound}
 use Rattle.causal.specs.World as w
-use Rattle.causal.specs.World.{World, Answer, Behind, CausesApplied, Event, put, get, look, adopt, update, PUT, GET, LOOK, ADOPT, UPDATE, withPut, withGet, withUpdate}
+use Rattle.causal.specs.World.{Tops, World, Answer, Behind, CausesApplied, Event, put, get, look, adopt, update, PUT, GET, LOOK, ADOPT, UPDATE, withPut, withGet, withUpdate}
 use Rattle.causal.specs.History.{History}
-use Rattle.causal.specs.Refines.{Tops, Abstracts, told, found, Steps, Refines, Tells, Follows}
-use Rattle.causal.proofs.Sites.{next}
+use Rattle.causal.specs.Refines.{Abstracts, told, found, Steps, Refines, Tells, Follows}
+use Rattle.causal.proofs.Updates.{next}
 use Rattle.causal.proofs.Vectors.{tops-worst, same-answers}
-use Rattle.causal.proofs.Related.{put-next, put-related, get-related, deliver-numbers, deliver-related, same-due, same-check, same-waiting}
+use Rattle.causal.proofs.Related.{put-next, put-related, get-related, replaces, deliver-numbers, deliver-replaces, deliver-related, same-due, same-check, same-waiting}
 
 -- a call with its step, and what is ready exactly when the step is taken
 module _ (S : State) (W : World) (c : Call) {R P : Type 0} (ready : (first (refusals S c) ≡ 0) ↔ R) (same : R ↔ P)
@@ -175,8 +175,8 @@ module _ (S : State) (D : Sound S) (W : World) (A : Abstracts S W) where
       (λ R.
       record {
         event = update s o (w.due W s o) (w.waiting W s o .key) (w.waiting W s o .value);
-        world = withUpdate W s o;
-        step = UPDATE s o (R .site) (R .origin) (R .others) (enables s o R .3) (enables s o R .4);
+        world = withUpdate W s o (replaces S s o);
+        step = UPDATE s o _ (R .site) (R .origin) (R .others) (enables s o R .3) (enables s o R .4) (deliver-replaces S s o R W A);
         call = λ h. ap (λ (a : Numbers). update s o (a .clock) (a .key) (a .value) ∷ h) (deliver-numbers S s o R W A);
         answer = deliver-numbers S s o R W A;
         abstracts = deliver-related S s o R W A;

@@ -9,8 +9,8 @@ use borrow.Author.Tests.{eqb-true, eq-eqb}
 use Rattle.clock.specs.Map.{if_then_else_}
 use Rattle.clock.specs.Lists.{_∈_, Before}
 use Rattle.causal.specs.World.{Event, put, get, look, adopt, update}
-use Rattle.causal.specs.History.{History, Op, Write, Read, op, order, Ordered, AppliedExactly}
-use Rattle.causal.proofs.Sites.{clash}
+use Rattle.causal.specs.History.{History, Ranks, Op, Write, op, order, Ordered, AppliedExactly}
+use Rattle.causal.proofs.Updates.{clash, earlier-in}
 
 -- ## The order, as its history has it
 
@@ -45,11 +45,6 @@ came s (e ∷ h) o c x v q =
     (λ (r : Write o c x v ∈ op s e). ⊎-elim (λ z. inl (z .0, inl (z .1))) (λ z. inr (inl z)) (op-is s e o c x v r))
     (λ (r : Write o c x v ∈ order s h). ⊎-elim (λ z. inl (z .0, inr (z .1))) (λ z. inr (inr z)) (came s h o c x v r))
     (in-append (Write o c x v) (op s e) (order s h) q)
-
-pub earlier-in : {A : Type 0} (l : List A) (a b : A) → Before l a b → a ∈ l
-earlier-in [] a b p = absurd p
-earlier-in (x ∷ l) a b (inl p) = inr (p .1)
-earlier-in (x ∷ l) a b (inr p) = inr (earlier-in l a b p)
 
 -- what came before something stands behind the newest
 pub behind : {A : Type 0} (x : A) (l : List A) (a b : A) → Before (x ∷ l) a b → a ∈ l
@@ -87,13 +82,13 @@ module _ (s : ℕ) where
 -- ## An order
 
 -- what came to a site from itself would stand twice: as its put, and as handed
-pub not-from-itself : (h : History) (s c x v : ℕ) → update s s c x v ∈ h → Ordered h s → ⊥
-not-from-itself h s c x v q O =
+pub not-from-itself : (r : Ranks) (h : History) (s c x v : ℕ) → update s s c x v ∈ h → Ordered r h s → ⊥
+not-from-itself r h s c x v q O =
     O .once s c x v x v
     (stands-before s (Write s c x v) (Write s c x v) (put s x v c) (update s s c x v) (own s s c x v refl) (arrived s s c x v) h (O .put-first s c x v q))
 
 pub applied-exactly : AppliedExactly
-applied-exactly h s O o c x v = (
+applied-exactly r h s O o c x v = (
   λ q.
       ⊎-elim
       (λ p. (p .1, inl (p .0)))

@@ -11,9 +11,9 @@ use Rattle.layout.specs.State.{State}
 use Rattle.rules.specs.Sound.{place}
 use Rattle.rules.specs.Steps.{opened}
 use Rattle.causal.specs.World as w
-use Rattle.causal.specs.World.{Set, World, nth, start}
-use Rattle.causal.specs.Refines.{Tops, answer, Abstracts}
-use Rattle.causal.proofs.Sites.{blank, newest, le-suc-cases}
+use Rattle.causal.specs.World.{Set, Tops, World, nth, start}
+use Rattle.causal.specs.Refines.{answer, Abstracts}
+use Rattle.causal.proofs.Updates.{blank, newest, le-suc-cases}
 use Rattle.causal.proofs.Vectors.{tops-none}
 
 -- the pairs of the columns that are not 0

@@ -5,10 +5,12 @@ use Prim.Native.Nat.{ℕ, _<_}
 use native.Mathlib.Omega.{arith}
 use Rattle.causal.specs.World.{Step, World, nth, due, Event, put, update, PUT, GET, LOOK, ADOPT, UPDATE, Run, begin, more}
 use Rattle.clock.specs.Lists.{_∈_, Before}
-use Rattle.causal.specs.History.{History, Cause, direct, deeper, Ordered}
-use Rattle.causal.proofs.Sites.{clash, Issued, later-in}
+use Rattle.causal.specs.History.{History, Ranks, Cause, direct, deeper, Ranking, Ordered}
+use Rattle.causal.proofs.Updates.{clash, Issued}
 use Rattle.causal.proofs.Invariant.{Inv, issued}
-use Rattle.causal.proofs.Puts.{inv}
+use Rattle.causal.proofs.Puts.{came-in, right-less, inv}
+use Rattle.causal.proofs.Vectors.{tops-same}
+use Rattle.causal.proofs.Higher.{Right}
 
 -- ## Steps
 
@@ -23,42 +25,54 @@ put-below {n} (PUT t y w p q) o x v c e = subst (λ (z : ℕ). z < n) (cc) p
 put-below (GET t y p q) o x v c e = clash (cc)
 put-below (LOOK t y p q) o x v c e = clash (cc)
 put-below (ADOPT t y p q) o x v c e = clash (cc)
-put-below (UPDATE t o₁ p q d f g) o x v c e = clash (cc)
+put-below (UPDATE t o₁ b p q d f g i) o x v c e = clash (cc)
 
 pub put-site-below : {n k : ℕ} (h : History) (W : World) → Run n k h W → (o x v c : ℕ) → put o x v c ∈ h → o < n
 put-site-below h W r o x v c q = put-below (labels h W r (put o x v c) q .2) o x v c refl
 
 -- ## Causes
 
-cause-issued : (h : History) (W : World) → Inv h W → {o c o′ c′ : ℕ} → Cause h o c o′ c′ → Issued (W .updates) o′ c′
-cause-issued h W I (direct e s x v c o′ c′ b k) = issued h W I s x v c (later-in h e (put s x v c) b)
-cause-issued h W I (deeper p q) = cause-issued h W I q
+module _ (r : Ranks) (h : History) (W : World) (I : Inv r h W) where
+  cause-issued : {o c o′ c′ : ℕ} → Cause r h o c o′ c′ → Issued (W .updates) o′ c′
+  cause-issued (direct p s x v c o′ c′ b k) = issued r h W I s x v c (came-in h p (put s x v c) b)
+  cause-issued (deeper p q) = cause-issued q
 
--- a put's set has each of its causes
-cause-in : (h : History) (W : World) → Inv h W → {o c o′ c′ : ℕ} → Cause h o c o′ c′ → nth (W .updates o′) c′ .depends o c
-cause-in h W I (direct e s x v c o′ c′ b k) = I .before e s x v c o′ c′ b k
-cause-in h W I (deeper {o = o} {c = c} {o′ = o′} {c′ = c′} {o″ = o″} {c″ = c″} p q) =
-    I .closed o″ c″ (cause-issued h W I q) o′ c′ (cause-in h W I q) .1 o c (cause-in h W I p)
+  -- a put's set has each of its causes
+  cause-in : {o c o′ c′ : ℕ} → Cause r h o c o′ c′ → nth (W .updates o′) c′ .depends o c
+  cause-in (direct p s x v c o′ c′ b k) = I .takes p s x v c o′ c′ b k
+  cause-in (deeper {o = o} {c = c} {o′ = o′} {c′ = c′} {o″ = o″} {c″ = c″} p q) = I .closed o″ c″ (cause-issued q) o′ c′ (cause-in q) .1 o c (cause-in p)
+
+  -- and no others, so its rank is that of its causes
+  pub ranking : Right r (W .updates) → Ranking r h
+  ranking R o x v c q =
+      let i = issued r h W I o x v c q in
+      let (m, t, e) = R o c i in
+      (m, tops-same m _ _ (I .exact o c i) (λ o′ c′ k. cause-in k) t, e)
 
 -- ## Demand 3, safety
 
 -- what a site is handed was put before, since an update is one of the puts
-handed : {n k : ℕ} (h : History) (W : World) → Run n k h W → (s o c x v : ℕ) → update s o c x v ∈ h → Before h (put o x v c) (update s o c x v)
-handed h W begin s o c x v q = absurd q
-handed h W (more r (PUT t y w p p′)) s o c x v (inl q) = clash (cc)
-handed h W (more r (GET t y p p′)) s o c x v (inl q) = clash (cc)
-handed h W (more r (LOOK t y p p′)) s o c x v (inl q) = clash (cc)
-handed h W (more r (ADOPT t y p p′)) s o c x v (inl q) = clash (cc)
-handed h W (more {h = h₁} {W = W₁} r (UPDATE t o₁ p p′ d f g)) s o c x v (inl q) =
-    inl (q, subst (λ (z : Event). z ∈ h₁) (cc) (inv h₁ W₁ r .holds o₁ (due W₁ t o₁) (omega arith, f)))
-handed h W (more {h = h₁} {W = W₁} r e) s o c x v (inr q) = inr (handed h₁ W₁ r s o c x v q)
+handed : {n k : ℕ} (r : Ranks) (h : History) (W : World) → Run n k h W → Right r (W .updates) → (s o c x v : ℕ) → update s o c x v ∈ h
+    → Before h (put o x v c) (update s o c x v)
+handed r h W begin R s o c x v q = absurd q
+handed r h W (more k (PUT t y w p p′)) R s o c x v (inl q) = clash (cc)
+handed r h W (more {W = W₁} k (PUT t y w p p′)) R s o c x v (inr q) = inr (handed r _ W₁ k (right-less r W₁ t y w R) s o c x v q)
+handed r h W (more k (GET t y p p′)) R s o c x v (inl q) = clash (cc)
+handed r h W (more k (GET t y p p′)) R s o c x v (inr q) = inr (handed r _ _ k R s o c x v q)
+handed r h W (more k (LOOK t y p p′)) R s o c x v (inl q) = clash (cc)
+handed r h W (more k (LOOK t y p p′)) R s o c x v (inr q) = inr (handed r _ _ k R s o c x v q)
+handed r h W (more k (ADOPT t y p p′)) R s o c x v (inl q) = clash (cc)
+handed r h W (more k (ADOPT t y p p′)) R s o c x v (inr q) = inr (handed r _ _ k R s o c x v q)
+handed r h W (more {h = h₁} {W = W₁} k (UPDATE t o₁ b p p′ d f g i)) R s o c x v (inl q) =
+    inl (q, subst (λ (z : Event). z ∈ h₁) (cc) (inv r h₁ W₁ k R .holds o₁ (due W₁ t o₁) (omega arith, f)))
+handed r h W (more k (UPDATE t o₁ b p p′ d f g i)) R s o c x v (inr q) = inr (handed r _ _ k R s o c x v q)
 
-pub safety : {n k : ℕ} (h : History) (W : World) → Run n k h W → (s : ℕ) → Ordered h s
-safety h W r s =
-    let I = inv h W r in
+pub safety : {n k : ℕ} (r : Ranks) (h : History) (W : World) → Run n k h W → Right r (W .updates) → (s : ℕ) → Ordered r h s
+safety r h W k R s =
+    let I = inv r h W k R in
     record {
-      put-first = handed h W r s;
+      put-first = handed r h W k R s;
       once = I .site s .once;
-      caused = λ o c x v o′ c′ q k. I .site s .after o c x v o′ c′ q (cause-in h W I k);
+      caused = λ o c x v o′ c′ q i. I .site s .after o c x v o′ c′ q (cause-in r h W I i);
       reads = I .site s .reads;
     }

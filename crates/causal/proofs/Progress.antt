@@ -8,12 +8,15 @@ use native.Mathlib.Decide.{decLe}
 use Rattle.clock.proofs.Maps.{eq?}
 use Rattle.causal.specs.World.{Behind, CausesApplied, World, nth, due, Event, put, get, look, adopt, update, Run}
 use Rattle.clock.specs.Lists.{_∈_}
-use Rattle.causal.specs.History.{CausalRun, History, Lacks}
-use Rattle.causal.proofs.Sites.{clash, Issued}
+use Rattle.causal.specs.History.{CausalRun, History, Ranks, Lacks}
+use Rattle.causal.proofs.Updates.{clash, Issued}
 use Rattle.causal.proofs.Invariant.{Past, NoPut, Inv, issued, put-inj}
 use Rattle.causal.proofs.Puts.{inv}
 use Rattle.causal.proofs.Handed.{came}
-use Rattle.causal.proofs.Orders.{safety, put-site-below}
+use Rattle.causal.proofs.Orders.{ranking, safety, put-site-below}
+use Rattle.causal.proofs.Higher.{Right}
+use Rattle.causal.proofs.Topped.{all-ranked}
+use Rattle.causal.proofs.Only.{only}
 
 -- the site has applied each put of `h`
 abbrev All : World → ℕ → History → Type 0
@@ -57,8 +60,8 @@ first W s (adopt t y a ∷ h) p = skip (λ o x v c q. clash (cc)) (first W s h (
 first W s (update t o b y w ∷ h) p = skip (λ o₁ x v c q. clash (cc)) (first W s h (p .1))
 
 -- the put found is the next one of its origin, since it depends on all those before it there
-some-next : (h : History) (W : World) (s : ℕ) → Inv h W → (k : Some W s h) → Issued (W .updates) (k .o) (k .c) → k .c ≡ due W s (k .o)
-some-next h W s I k i =
+some-next : (r : Ranks) (h : History) (W : World) (s : ℕ) → Inv r h W → (k : Some W s h) → Issued (W .updates) (k .o) (k .c) → k .c ≡ due W s (k .o)
+some-next r h W s I k i =
     ⊎-elim
     (λ (p : k .c ≡ due W s (k .o)). p)
     (λ (p : k .c ≢ due W s (k .o)).
@@ -66,26 +69,40 @@ some-next h W s I k i =
     absurd (omega (arith, k .ready (k .o) (due W s (k .o)) (I .chain (k .o) (k .c) (due W s (k .o)) i (omega arith) l))))
     (eq? (k .c) (due W s (k .o)))
 
-some-enabled : (h : History) (W : World) (s : ℕ) → Inv h W → (k : Some W s h) → (s ≢ k .o) × Behind W s (k .o) × CausesApplied W s (k .o)
-some-enabled h W s I k =
-    let i = issued h W I (k .o) (k .x) (k .v) (k .c) (k .put-there) in
-    let e = some-next h W s I k i in (
+some-enabled : (r : Ranks) (h : History) (W : World) (s : ℕ) → Inv r h W → (k : Some W s h) → (s ≢ k .o) × Behind W s (k .o) × CausesApplied W s (k .o)
+some-enabled r h W s I k =
+    let i = issued r h W I (k .o) (k .x) (k .v) (k .c) (k .put-there) in
+    let e = some-next r h W s I k i in (
       (λ q. omega (arith, k .lacked, i .1, I .own-count (k .o), ap (λ (z : ℕ). W .applied z (k .o)) q)),
       omega (arith, k .lacked, i .1),
       subst (λ (z : ℕ). (o′ c′ : ℕ) → nth (W .updates (k .o)) z .depends o′ c′ → c′ ≤ W .applied s o′) e (k .ready),
     )
 
-not-applied : (h : History) (W : World) (s o c : ℕ) → Inv h W → 1 ≤ c → Lacks h s o c → c ≤ W .applied s o → ⊥
-not-applied h W s o c I p k q = ⊎-elim (λ z. k .0 (z .0)) (k .1 _ _) (came s h o c _ _ (I .site s .shown o c p q))
+not-applied : (r : Ranks) (h : History) (W : World) (s o c : ℕ) → Inv r h W → 1 ≤ c → Lacks h s o c → c ≤ W .applied s o → ⊥
+not-applied r h W s o c I p k q = ⊎-elim (λ z. k .0 (z .0)) (k .1 _ _) (came s h o c _ _ (I .site s .shown o c p q))
 
-pub progress : {n k : ℕ} (h : History) (W : World) → Run n k h W → (s o x v c : ℕ) → put o x v c ∈ h → Lacks h s o c → (o′ : ℕ) × (o′ < n) × (s ≢ o′) × Behind W s o′ × CausesApplied W s o′
-progress h W r s o x v c p q =
-    let I = inv h W r in
+progress : {n k : ℕ} (r : Ranks) (h : History) (W : World) → Run n k h W → Inv r h W → (s o x v c : ℕ) → put o x v c ∈ h → Lacks h s o c
+    → (o′ : ℕ) × (o′ < n) × (s ≢ o′) × Behind W s o′ × CausesApplied W s o′
+progress r h W l I s o x v c p q =
     ⊎-elim
-    (λ (f : All W s h). absurd (not-applied h W s o c I (issued h W I o x v c p .0) q (f o x v c p)))
-    (λ (k : Some W s h). let e = some-enabled h W s I k in (k .o, put-site-below h W r (k .o) (k .x) (k .v) (k .c) (k .put-there), e .0, e .1, e .2))
+    (λ (f : All W s h). absurd (not-applied r h W s o c I (issued r h W I o x v c p .0) q (f o x v c p)))
+    (λ (k : Some W s h). let e = some-enabled r h W s I k in (k .o, put-site-below h W l (k .o) (k .x) (k .v) (k .c) (k .put-there), e .0, e .1, e .2))
     (first W s h (I .past))
 
--- every run of figure 7 is causal and live
-pub run-causal : {n k : ℕ} {h : History} {W : World} → Run n k h W → CausalRun n h W
-run-causal {h = h} {W = W} r = record { orders = safety h W r; live = progress h W r }
+-- every run of figure 7 with at most eight sites is causal and live
+pub run-causal : {n k : ℕ} {h : History} {W : World} → n ≤ 8 → Run n k h W → CausalRun n h W
+run-causal {h = h} {W = W} b l =
+    let A = all-ranked b h W l in
+    let r = A .ranks in
+    let R = A .right in
+    let I = inv r h W l R in
+    record {
+      ranked = record { ranks = r; ranking = ranking r h W I R; only = only r h W l R };
+      vectors = λ o x v c q. R o c (issued r h W I o x v c q);
+      orders = safety r h W l R;
+      live = progress r h W l I;
+    }
+
+pub run-right : {n k : ℕ} {h : History} {W : World} (b : n ≤ 8) (l : Run n k h W) → Right (run-causal b l .ranked .ranks) (W .updates)
+unfolding run-causal
+run-right {h = h} {W = W} b l = all-ranked b h W l .right

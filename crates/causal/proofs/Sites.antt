@@ -1,83 +1,77 @@
 -- One site over the updates of all: what holds of its sets, counts, store and order, and how a write, a look and an adopt keep it. Assumes nothing.
 use mathlib.Core.Path.{_≡_, refl, sym, ap, subst, _∙_}
-use mathlib.Core.Bool.{Bool, true, false}
-use mathlib.Core.List.{List, [], _∷_, _++_}
-use mathlib.Core.Logic.{_⊎_, inl, inr, ⊎-elim, _≢_}
-use Prim.Native.Nat.{ℕ, zero, suc, _-_, _≤_}
+use mathlib.Core.Bool.{Bool, true, false, _&&_, _||_}
+use mathlib.Core.List.{List, [], _∷_}
+use mathlib.Core.Logic.{_⊎_, _↔_, inl, inr, ⊎-elim}
+use Prim.Native.Nat.{ℕ, suc, _≤_}
 use native.Mathlib.Omega.{arith}
-use lib.Dec.{eqb}
-use lib.ListN.{length, length-append, List·getD-append}
-use lib.Seq.{getD-append-seam}
+use lib.Dec.{eqb, ltb, leb}
+use lib.ListN.{length}
 use borrow.Author.Tests.{eqb-true}
 use Rattle.clock.specs.Map.{if_then_else_, _⟨_≔_⟩}
-use Rattle.clock.proofs.Maps.{choice, eq?, at-is, at-same}
-use Rattle.causal.specs.World.{Set, _∪_, Update, Answer, never, wrote, Entry, nth, learned, ∅, World}
+use Rattle.clock.proofs.Maps.{choice, at-is, at-same}
+use Rattle.causal.specs.World.{Set, _∪_, Update, Answer, never, wrote, Entry, nth, learned, World}
 use Rattle.clock.specs.Lists.{_∈_, Before}
-use Rattle.causal.specs.History.{Names, Op, Write, Read, lookup, Reads}
-
--- where two constructors would be equal
-pub clash : {A : Type 0} → _≡_ {A = ℕ} 0 1 → A
-clash e = absurd (omega arith)
-
--- what came later than something stands in the list
-pub later-in : {A : Type 0} (l : List A) (a b : A) → Before l a b → b ∈ l
-later-in [] a b h = absurd h
-later-in (x ∷ l) a b (inl p) = inl (p .0)
-later-in (x ∷ l) a b (inr h) = inr (later-in l a b h)
-
--- ## Updates and closed sets
-
--- what a list reads as past its end
-abbrev pub blank : Update
-blank = record { key = 0; value = 0; depends = ∅ }
-
--- the clock of the next put at s
-abbrev pub next : World → (s : ℕ) → ℕ
-next W s = suc (length (W .updates s))
-
-abbrev pub Updates : Type 1
-Updates = ℕ → List Update
-
-abbrev pub Issued : Updates → ℕ → ℕ → Type 0
-Issued u o c = (1 ≤ c) × (c ≤ length (u o))
-
--- a set with each of its puts has the set of that put
-abbrev pub Closed : Updates → Set → Type 0
-Closed u d = (o c : ℕ) → d o c → Issued u o c × ((o′ c′ : ℕ) → nth (u o) c .depends o′ c′ → d o′ c′)
-
--- `v` has the updates of `u`, and perhaps more
-abbrev pub Extends : Updates → Updates → Type 1
-Extends u v = (o c : ℕ) → Issued u o c → Issued v o c × (nth (v o) c ≡ nth (u o) c)
-
-pub closed-more : (u v : Updates) (d : Set) → Extends u v → Closed u d → Closed v d
-closed-more u v d x k o c h =
-    (x o c (k o c h .0) .0, λ o′ c′ m. k o c h .1 o′ c′ (subst (λ (z : Update). z .depends o′ c′) (x o c (k o c h .0) .1) m))
+use Rattle.causal.proofs.Updates.{clash, earlier-in, Updates, Issued, Closed, learned-is, learned-set, Extends, closed-more, le-suc-cases, nth-at, more-most}
+use Rattle.causal.specs.History.{Names, Op, Write, Read, Ranks, higher, lookup, Reads}
 
 -- ## A site
 
--- an entry of the site's store: its put is issued and applied, and of that put's causes the site or the entry knows each
-pub record Stored (u : Updates) (d : Set) (a : ℕ → ℕ) (e : Entry) : Type 0 where
-  pub put-known : (o c : ℕ) → Names (e .answer) o c → Issued u o c × (c ≤ a o) × ((o′ c′ : ℕ) → nth (u o) c .depends o′ c′ → (e .depends ∪ d) o′ c′)
-  pub closed : Closed u (e .depends)
-  pub have : (o c : ℕ) → e .depends o c → c ≤ a o
-
 -- a site's dependencies d, applied counts a, store m and order l: its puts are the updates counted, each once and after
--- its set, and the store is what a single ordinary table has after them
-pub record Site (u : Updates) (d : Set) (a : ℕ → ℕ) (m : ℕ → Entry) (l : List Op) : Type 0 where
+-- its set; an entry has its put's set, and the store has the highest-ranked put of each key
+pub record Site (r : Ranks) (u : Updates) (d : Set) (a : ℕ → ℕ) (m : ℕ → Entry) (l : List Op) : Type 0 where
   pub most : (o : ℕ) → a o ≤ length (u o)
   pub closed : Closed u d
   pub have : (o c : ℕ) → d o c → c ≤ a o
-  pub stored : (x : ℕ) → Stored u d a (m x)
+  pub sets : (x o c : ℕ) → Names (m x .answer) o c → (o′ c′ : ℕ) → m x .depends o′ c′ ↔ nth (u o) c .depends o′ c′
   pub seen : (o c x v : ℕ) → Write o c x v ∈ l → (1 ≤ c) × (c ≤ a o) × (nth (u o) c .key ≡ x) × (nth (u o) c .value ≡ v)
   pub shown : (o c : ℕ) → 1 ≤ c → c ≤ a o → Write o c (nth (u o) c .key) (nth (u o) c .value) ∈ l
   pub after : (o c x v o′ c′ : ℕ) → Write o c x v ∈ l → nth (u o) c .depends o′ c′ → (x′ : ℕ) × (v′ : ℕ) × Before l (Write o′ c′ x′ v′) (Write o c x v)
   pub once : (o c x v x′ v′ : ℕ) → Before l (Write o c x v) (Write o c x′ v′) → ⊥
-  pub reads : Reads l
-  pub table : (x : ℕ) → m x .answer ≡ lookup x l
+  pub reads : Reads r l
+  pub table : (x : ℕ) → m x .answer ≡ lookup r x l
 
 -- that of a world
-abbrev pub SiteOf : World → (s : ℕ) → List Op → Type 0
-SiteOf W s = Site (W .updates) (W .depends s) (W .applied s) (W .store s)
+abbrev pub SiteOf : Ranks → World → (s : ℕ) → List Op → Type 0
+SiteOf r W s = Site r (W .updates) (W .depends s) (W .applied s) (W .store s)
+
+-- ## What a site holds
+
+higher-is : (r : Ranks) (w : Answer) (v o c : ℕ) → (higher r w v o c ≡ wrote v o c) ⊎ (higher r w v o c ≡ w)
+higher-is r never v o c = inl refl
+higher-is r (wrote v′ o′ c′) v o c =
+    choice (ltb (r o′ c′) (r o c) || (eqb (r o′ c′) (r o c) && leb o′ o)) (λ (w : Answer). (w ≡ wrote v o c) ⊎ (w ≡ wrote v′ o′ c′)) (λ e. inl refl) (λ e. inr refl)
+
+-- it is one of the writes
+pub lookup-in : (r : Ranks) (x : ℕ) (l : List Op) (v o c : ℕ) → lookup r x l ≡ wrote v o c → Write o c x v ∈ l
+lookup-in r x [] v o c e = clash (cc)
+lookup-in r x (Read y w ∷ l) v o c e = inr (lookup-in r x l v o c e)
+lookup-in r x (Write o′ c′ y v′ ∷ l) v o c e = go (eqb y x) refl e (lookup-in r x l v o c)
+  where
+    go : (b : Bool) → eqb y x ≡ b → (if b then higher r (lookup r x l) v′ o′ c′ else lookup r x l) ≡ wrote v o c
+        → (lookup r x l ≡ wrote v o c → Write o c x v ∈ l) → Write o c x v ∈ (Write o′ c′ y v′ ∷ l)
+    go true p q f = ⊎-elim (λ i. let z : y ≡ x = eqb-true y x p in inl (cc)) (λ i. inr (f (sym i ∙ q))) (higher-is r (lookup r x l) v′ o′ c′)
+    go false p q f = inr (f q)
+
+named-is : (w : Answer) (o c : ℕ) → Names w o c → (v : ℕ) × (w ≡ wrote v o c)
+named-is never o c k = absurd k
+named-is (wrote v o′ c′) o c k = (v, (cc))
+
+module _ {r : Ranks} {u : Updates} {d : Set} {a : ℕ → ℕ} {m : ℕ → Entry} {l : List Op} (S : Site r u d a m l) (x o c : ℕ) (k : Names (m x .answer) o c) where
+  pub held-in : (v : ℕ) × Write o c x v ∈ l
+  held-in = let n = named-is (m x .answer) o c k in (n .0, lookup-in r x l (n .0) o c (sym (S .table x) ∙ n .1))
+
+  pub held-applied : (1 ≤ c) × (c ≤ a o)
+  held-applied = let w = S .seen o c x (held-in .0) (held-in .1) in (w .0, w .1)
+
+  pub held-issued : Issued u o c
+  held-issued = (held-applied .0, omega (arith, held-applied .1, S .most o))
+
+  -- with its causes
+  held-causes : (o′ c′ : ℕ) → m x .depends o′ c′ → c′ ≤ a o′
+  held-causes o′ c′ p =
+      let b = S .after o c x (held-in .0) o′ c′ (held-in .1) (S .sets x o c k o′ c′ .0 p) in
+      S .seen o′ c′ (b .0) (b .1) (earlier-in l _ _ (b .2)) .1
 
 -- ## One more write at a site
 
@@ -85,9 +79,6 @@ SiteOf W s = Site (W .updates) (W .depends s) (W .applied s) (W .store s)
 infixl 90 _↑_
 abbrev pub _↑_ : (ℕ → ℕ) → ℕ → ℕ → ℕ
 _↑_ a o = a ⟨ o ≔ suc (a o) ⟩
-
-pub le-suc-cases : (c n : ℕ) → c ≤ suc n → (c ≤ n) ⊎ (c ≡ suc n)
-le-suc-cases c n h = ⊎-elim (λ (e : c ≡ suc n). inr e) (λ (e : c ≢ suc n). inl (omega arith)) (eq? c (suc n))
 
 pub up-more : (a : ℕ → ℕ) (o o′ c : ℕ) → c ≤ a o′ → c ≤ (a ↑ o) o′
 up-more a o o′ c h = ⊎-elim (λ q. omega (arith, q .1, ap a (q .0))) (λ q. omega (arith, q .1)) (at-is a o (suc (a o)) o′)
@@ -99,32 +90,16 @@ up-less a o o′ c h =
     (λ q. inl (omega (arith, q .1)))
     (at-is a o (suc (a o)) o′)
 
-stored-more : (u : Updates) (d d′ : Set) (a a′ : ℕ → ℕ) (e : Entry) → ((o c : ℕ) → d o c → d′ o c) → ((o c : ℕ) → c ≤ a o → c ≤ a′ o)
-    → Stored u d a e → Stored u d′ a′ e
-stored-more u d d′ a a′ e f g k =
-    record {
-      put-known = λ o c m. (k .put-known o c m .0, g o c (k .put-known o c m .1), λ o′ c′ q. ⊎-elim inl (λ r. inr (f o′ c′ r)) (k .put-known o c m .2 o′ c′ q));
-      closed = k .closed;
-      have = λ o c m. g o c (k .have o c m);
-    }
-
 write-inj : (o c x v o′ c′ x′ v′ : ℕ) → Write o c x v ≡ Write o′ c′ x′ v′ → (o ≡ o′) × (c ≡ c′) × (x ≡ x′) × (v ≡ v′)
 write-inj o c x v o′ c′ x′ v′ e = ((cc), (cc), (cc), (cc))
 
-pub nth-at : (u : Updates) (o o′ c c′ : ℕ) (up : Update) → o ≡ o′ → c ≡ c′ → nth (u o′) c′ ≡ up → nth (u o) c ≡ up
-nth-at u o o′ c c′ up p q e = cc
-
-module _ (u : Updates) (d d′ : Set) (a : ℕ → ℕ) (m : ℕ → Entry) (l : List Op) (o : ℕ) (up : Update) (e : Entry) (S : Site u d a m l)
+-- the write replaces the entry of its key where it is the higher
+module _ (r : Ranks) (u : Updates) (d d′ : Set) (a : ℕ → ℕ) (m : ℕ → Entry) (l : List Op) (o : ℕ) (up : Update) (S : Site r u d a m l)
     (fits : suc (a o) ≤ length (u o)) (is : nth (u o) (suc (a o)) ≡ up) (ready : (o′ c′ : ℕ) → up .depends o′ c′ → (1 ≤ c′) × (c′ ≤ a o′))
-    (closed′ : Closed u d′) (more : (o′ c′ : ℕ) → d o′ c′ → d′ o′ c′) (have′ : (o′ c′ : ℕ) → d′ o′ c′ → c′ ≤ (a ↑ o) o′)
-    (entry : Stored u d′ (a ↑ o) e) (says : e .answer ≡ wrote (up .value) o (suc (a o))) where
+    (closed′ : Closed u d′) (have′ : (o′ c′ : ℕ) → d′ o′ c′ → c′ ≤ (a ↑ o) o′) where
   write-most : (o′ : ℕ) → (a ↑ o) o′ ≤ length (u o′)
   write-most o′ =
       choice (eqb o o′) (λ (z : ℕ). z ≤ length (u o′)) (λ q. subst (λ (z : ℕ). suc (a o) ≤ length (u z)) (eqb-true o o′ q) fits) (λ q. S .most o′)
-
-  write-stored : (x : ℕ) → Stored u d′ (a ↑ o) ((m ⟨ up .key ≔ e ⟩) x)
-  write-stored x =
-      choice (eqb (up .key) x) (Stored u d′ (a ↑ o)) (λ q. entry) (λ q. stored-more u d d′ a (a ↑ o) (m x) more (up-more a o) (S .stored x))
 
   abbrev new : Op
   new = Write o (suc (a o)) (up .key) (up .value)
@@ -159,99 +134,111 @@ module _ (u : Updates) (d d′ : Set) (a : ℕ → ℕ) (m : ℕ → Entry) (l :
       omega (arith, S .seen o₁ c x v (q .1) .1, ap a p₀)
   write-once o₁ c x v x′ v′ (inr q) = S .once o₁ c x v x′ v′ q
 
-  write-table : (x : ℕ) → (m ⟨ up .key ≔ e ⟩) x .answer ≡ lookup x (new ∷ l)
-  write-table x = go (eqb (up .key) x)
-    where
-      go : (t : Bool) → (if t then e else m x) .answer ≡ (if t then wrote (up .value) o (suc (a o)) else lookup x l)
-      go true = says
-      go false = S .table x
+  abbrev fresh : Entry
+  fresh = record { answer = wrote (up .value) o (suc (a o)); depends = up .depends }
 
-  pub write-site : Site u d′ (a ↑ o) (m ⟨ up .key ≔ e ⟩) (new ∷ l)
-  write-site =
+  abbrev stores : Bool → ℕ → Entry
+  stores b = if b then m ⟨ up .key ≔ fresh ⟩ else m
+
+  write-sets : (b : Bool) (x o′ c : ℕ) → Names (stores b x .answer) o′ c → (o″ c″ : ℕ) → stores b x .depends o″ c″ ↔ nth (u o′) c .depends o″ c″
+  write-sets false x o′ c = S .sets x o′ c
+  write-sets true x o′ c =
+      choice (eqb (up .key) x) (λ (e : Entry). Names (e .answer) o′ c → (o″ c″ : ℕ) → e .depends o″ c″ ↔ nth (u o′) c .depends o″ c″)
+      (λ q k o″ c″. rw (nth-at u o′ o c (suc (a o)) up (k .0) (k .1) is) ((λ z. z), λ z. z)) (λ q. S .sets x o′ c)
+
+  write-table : (b : Bool) → higher r (m (up .key) .answer) (up .value) o (suc (a o)) ≡ (if b then fresh .answer else m (up .key) .answer)
+      → (x : ℕ) → stores b x .answer ≡ lookup r x (new ∷ l)
+  write-table true w x = go (eqb (up .key) x) refl
+    where
+      go : (i : Bool) → eqb (up .key) x ≡ i → (if i then fresh else m x) .answer ≡ (if i then higher r (lookup r x l) (up .value) o (suc (a o)) else lookup r x l)
+      go true e = sym (subst (λ (z : ℕ). higher r (lookup r z l) (up .value) o (suc (a o)) ≡ fresh .answer) (eqb-true (up .key) x e) (rw (← S .table (up .key)) w))
+      go false e = S .table x
+  write-table false w x = go (eqb (up .key) x) refl
+    where
+      go : (i : Bool) → eqb (up .key) x ≡ i → m x .answer ≡ (if i then higher r (lookup r x l) (up .value) o (suc (a o)) else lookup r x l)
+      go true e = sym (subst (λ (z : ℕ). higher r (lookup r z l) (up .value) o (suc (a o)) ≡ m z .answer) (eqb-true (up .key) x e) (rw (← S .table (up .key)) w))
+      go false e = S .table x
+
+  pub write-site : (b : Bool) → higher r (m (up .key) .answer) (up .value) o (suc (a o)) ≡ (if b then fresh .answer else m (up .key) .answer)
+      → Site r u d′ (a ↑ o) (stores b) (new ∷ l)
+  write-site b w =
       record {
         most = write-most;
         closed = closed′;
         have = have′;
-        stored = write-stored;
+        sets = write-sets b;
         seen = write-seen;
         shown = write-shown;
         after = write-after;
         once = write-once;
         reads = S .reads;
-        table = write-table;
+        table = write-table b w;
       }
 
 -- ## A look and an adopt at a site
 
-learned-closed : (u : Updates) (d e : Set) (a : ℕ → ℕ) (w : Answer) → Stored u d a (record { answer = w; depends = e }) → Closed u d → Closed u (d ∪ learned w e)
-learned-closed u d e a never k h o c (inl p) = (h o c p .0, λ o′ c′ q. inl (h o c p .1 o′ c′ q))
-learned-closed u d e a never k h o c (inr p) = absurd p
-learned-closed u d e a (wrote v o₁ c₁) k h o c (inl p) = (h o c p .0, λ o′ c′ q. inl (h o c p .1 o′ c′ q))
-learned-closed u d e a (wrote v o₁ c₁) k h o c (inr (inl p)) =
-    (k .put-known o c p .0, λ o′ c′ q. ⊎-elim (λ r. inr (inr r)) (λ r. inl r) (k .put-known o c p .2 o′ c′ q))
-learned-closed u d e a (wrote v o₁ c₁) k h o c (inr (inr p)) = (k .closed o c p .0, λ o′ c′ q. inr (inr (k .closed o c p .1 o′ c′ q)))
-
-learned-have : (u : Updates) (d e : Set) (a : ℕ → ℕ) (w : Answer) → Stored u d a (record { answer = w; depends = e }) → (o c : ℕ) → learned w e o c → c ≤ a o
-learned-have u d e a never k o c p = absurd p
-learned-have u d e a (wrote v o₁ c₁) k o c (inl p) = k .put-known o c p .1
-learned-have u d e a (wrote v o₁ c₁) k o c (inr p) = k .have o c p
-
 -- in the order, a read of what the store has
-pub look-site : {u : Updates} {d : Set} {a : ℕ → ℕ} {m : ℕ → Entry} {l : List Op} (x : ℕ) → Site u d a m l → Site u d a m (Read x (m x .answer) ∷ l)
+pub look-site : {r : Ranks} {u : Updates} {d : Set} {a : ℕ → ℕ} {m : ℕ → Entry} {l : List Op} (x : ℕ) → Site r u d a m l → Site r u d a m (Read x (m x .answer) ∷ l)
 look-site x S =
     record {
       most = S .most;
       closed = S .closed;
       have = S .have;
-      stored = S .stored;
+      sets = S .sets;
       seen = λ o c y v. ⊎-elim (λ q. clash (cc)) (S .seen o c y v);
       shown = λ o c h k. inr (S .shown o c h k);
-      after = λ o c y v o′ c′ q k. let r = S .after o c y v o′ c′ (⊎-elim (λ e. clash (cc)) (λ e. e) q) k in (r .0, r .1, inr (r .2));
+      after = λ o c y v o′ c′ q k. let b = S .after o c y v o′ c′ (⊎-elim (λ e. clash (cc)) (λ e. e) q) k in (b .0, b .1, inr (b .2));
       once = λ o c y v y′ v′. ⊎-elim (λ q. clash (cc)) (S .once o c y v y′ v′);
       reads = (S .table x, S .reads);
       table = S .table;
     }
 
 -- in the set, what the entry says
-pub learn-site : {u : Updates} {d : Set} {a : ℕ → ℕ} {m : ℕ → Entry} {l : List Op} (x : ℕ) → Site u d a m l
-    → Site u (d ∪ learned (m x .answer) (m x .depends)) a m l
-learn-site {u} {d} {a} {m} x S =
-    record {
-      most = S .most;
-      closed = learned-closed u d (m x .depends) a (m x .answer) (S .stored x) (S .closed);
-      have = λ o c. ⊎-elim (S .have o c) (learned-have u d (m x .depends) a (m x .answer) (S .stored x) o c);
-      stored = λ y. stored-more u d _ a a (m y) (λ o c h. inl h) (λ o c h. h) (S .stored y);
-      seen = S .seen;
-      shown = S .shown;
-      after = S .after;
-      once = S .once;
-      reads = S .reads;
-      table = S .table;
-    }
+module _ {r : Ranks} {u : Updates} {d : Set} {a : ℕ → ℕ} {m : ℕ → Entry} {l : List Op} (x : ℕ) (S : Site r u d a m l)
+    (sets : (o c : ℕ) → Issued u o c → Closed u (nth (u o) c .depends)) where
+  abbrev all : Set
+  all = d ∪ learned (m x .answer) (m x .depends)
+
+  pub learn-closed : Closed u all
+  learn-closed o c (inl p) = (S .closed o c p .0, λ o′ c′ q. inl (S .closed o c p .1 o′ c′ q))
+  learn-closed o c (inr p) =
+      ⊎-elim
+      (λ k. (held-issued S x o c k, λ o′ c′ q. inr (learned-set (m x .answer) _ o c o′ c′ k (S .sets x o c k o′ c′ .1 q))))
+      (λ k.
+      let (o₁, c₁, n, q) = k in
+      let f = sets o₁ c₁ (held-issued S x o₁ c₁ n) o c (S .sets x o₁ c₁ n o c .0 q) in
+      (f .0, λ o′ c′ z. inr (learned-set (m x .answer) _ o₁ c₁ o′ c′ n (S .sets x o₁ c₁ n o′ c′ .1 (f .1 o′ c′ z)))))
+      (learned-is (m x .answer) (m x .depends) o c p)
+
+  pub learn-have : (o c : ℕ) → all o c → c ≤ a o
+  learn-have o c =
+      ⊎-elim (S .have o c)
+      (λ p. ⊎-elim (λ k. held-applied S x o c k .1) (λ k. held-causes S x (k .0) (k .1) (k .2) o c (k .3)) (learned-is (m x .answer) (m x .depends) o c p))
+
+  pub learn-site : Site r u all a m l
+  learn-site =
+      record {
+        most = S .most;
+        closed = learn-closed;
+        have = learn-have;
+        sets = S .sets;
+        seen = S .seen;
+        shown = S .shown;
+        after = S .after;
+        once = S .once;
+        reads = S .reads;
+        table = S .table;
+      }
 
 -- ## More updates elsewhere
 
-more-most : (u v : Updates) → Extends u v → (o c : ℕ) → c ≤ length (u o) → c ≤ length (v o)
-more-most u v x o zero h = omega arith
-more-most u v x o (suc c) h = x o (suc c) (omega arith, h) .0 .1
-
-more-stored : (u v : Updates) (d : Set) (a : ℕ → ℕ) (e : Entry) → Extends u v → Stored u d a e → Stored v d a e
-more-stored u v d a e x k =
-    record {
-      put-known = λ o c m.
-          let r = k .put-known o c m in
-          (x o c (r .0) .0, r .1, λ o′ c′ q. r .2 o′ c′ (subst (λ (z : Update). z .depends o′ c′) (x o c (r .0) .1) q));
-      closed = closed-more u v (e .depends) x (k .closed);
-      have = k .have;
-    }
-
-pub more-site : (u v : Updates) (d : Set) (a : ℕ → ℕ) (m : ℕ → Entry) (l : List Op) → Extends u v → Site u d a m l → Site v d a m l
-more-site u v d a m l x S =
+pub more-site : {r : Ranks} (u v : Updates) {d : Set} {a : ℕ → ℕ} {m : ℕ → Entry} {l : List Op} → Extends u v → Site r u d a m l → Site r v d a m l
+more-site u v {d} {a} {l = l} x S =
     record {
       most = λ o. more-most u v x o (a o) (S .most o);
       closed = closed-more u v d x (S .closed);
       have = S .have;
-      stored = λ y. more-stored u v d a (m y) x (S .stored y);
+      sets = λ y o c k o′ c′. rw (x o c (held-issued S y o c k) .1) (S .sets y o c k o′ c′);
       seen = λ o c y w q.
           let k = S .seen o c y w q in
           let e = x o c (k .0, omega (arith, S .most o)) .1 in
@@ -265,17 +252,3 @@ more-site u v d a m l x S =
       reads = S .reads;
       table = S .table;
     }
-
-pub extends : (u : Updates) (t : ℕ) (up : Update) → Extends u (u ⟨ t ≔ u t ++ (up ∷ []) ⟩)
-extends u t up o c h =
-    choice (eqb t o) (λ (l : List Update). ((1 ≤ c) × (c ≤ length l)) × (nth l c ≡ nth (u o) c))
-    (λ e.
-    let f : u t ≡ u o = ap u (eqb-true t o e) in
-    let n : length (u t) ≡ length (u o) = ap length f in (
-      (h .0, omega (arith, length-append (u t) (up ∷ []))),
-      List·getD-append (u t) (up ∷ []) blank (c - 1) (omega arith) ∙ ap (λ (z : List Update). nth z c) f,
-    ))
-    (λ e. (h, refl))
-
-pub newest : (l : List Update) (up : Update) → nth (l ++ (up ∷ [])) (suc (length l)) ≡ up
-newest l up = let e : suc (length l) - 1 ≡ length l = omega arith in rw e (getD-append-seam l up [] blank)

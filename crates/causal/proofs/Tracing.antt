@@ -9,10 +9,11 @@ use lib.Dec.{eqb}
 use borrow.Author.Tests.{eq-eqb, ne-eqb}
 use Rattle.clock.specs.Map.{if_then_else_}
 use Rattle.clock.specs.Lists.{_∈_}
+use Rattle.clock.specs.Vector.{rank}
 use Rattle.clock.proofs.Maps.{eq?}
 use Rattle.layout.specs.State.{State}
 use Rattle.rules.specs.Engine.{Engine, ours}
-use Rattle.rules.specs.Sound.{Sound}
+use Rattle.rules.specs.Sound.{place, Retained, Sound}
 use Rattle.rules.specs.Touch.{touched}
 use Rattle.rules.specs.Refusals.{first}
 use Rattle.rules.specs.Steps as r
@@ -29,13 +30,17 @@ use Rattle.laws.proofs.Draining.{drained-code, drain-delivers}
 use Rattle.laws.proofs.Turns.{drain-ends}
 use Rattle.laws.proofs.After.{counts-kept}
 use Rattle.causal.specs.World.{Answer, World, Event, put, get, look, update, LOOK, Run, begin, more}
-use Rattle.causal.specs.History.{History, Lacks}
+use Rattle.causal.specs.History.{History, Names, Ranks, Lacks, CausalRun}
 use Rattle.causal.specs.Refines.{Abstracts, Refines, found, looked, after-call, Causal}
 use Rattle.causal.proofs.Meaning.{open-abstracts}
 use Rattle.causal.proofs.Following.{puts, gets, looks, adopts, delivers}
 use Rattle.causal.proofs.Handed.{in-right}
-use Rattle.causal.proofs.Progress.{run-causal}
-use Rattle.causal.proofs.Sites.{clash}
+use Rattle.causal.proofs.Sites.{held-issued}
+use Rattle.causal.proofs.Ranking.{rank-same, rank-one}
+use Rattle.causal.proofs.Higher.{Right}
+use Rattle.causal.proofs.Puts.{inv}
+use Rattle.causal.proofs.Progress.{run-causal, run-right}
+use Rattle.causal.proofs.Updates.{clash}
 
 pub record Traced (S : State) (h : History) : Type 1 where
   pub world : World
@@ -162,7 +167,7 @@ cold-traced {S} T s now U m =
 
 -- ## Any call
 
-open-traced : (n k : ℕ) → OpenReady n k → Traced (opened n k) []
+pub open-traced : (n k : ℕ) → OpenReady n k → Traced (opened n k) []
 unfolding opened
 open-traced n k R = record { world = _; leads = begin; related = open-abstracts n k; sound = open-sound n k R }
 
@@ -203,13 +208,35 @@ run-traced T (Adopt s x o c) = adopt-traced T s x o c
 
 -- ## Demand 3
 
-traced-live : {S : State} {h : History} → Traced S h → (s o x v c : ℕ) → s < S .n → put o x v c ∈ h → Lacks h s o c
-    → (o′ : ℕ) × (run ours S (Deliver s o′) .answer .code ≡ 0)
-traced-live {S} {h} T s o x v c p q l =
-    let e = run-causal (T .leads) .live s o x v c q l in
-    (e .0, delivers S (T .sound) (T .world) (T .related) s (e .0) .exactly .1 (p, e .1, e .2, e .3, e .4))
+module _ {S : State} {h : History} (T : Traced S h) where
+  abbrev causal : CausalRun (S .n) h (T .world)
+  causal = run-causal (T .sound .sites .1) (T .leads)
 
-traced-drains : {S : State} {h : History} → Traced S h → (s b o x v c : ℕ) → run ours S (Drain s b) .answer .code ≡ 0 → put o x v c ∈ h
+  abbrev ranks : Ranks
+  ranks = causal .ranked .ranks
+
+  right : Right ranks (T .world .updates)
+  right = run-right (T .sound .sites .1) (T .leads)
+
+  traced-entries : (s x : ℕ) → s < S .n → x < S .k → let e = S .store s x in e .clock ≢ 0 → ranks (e .origin) (e .clock) ≡ rank (e .depends)
+  traced-entries s x p q z =
+      let e = S .store s x in
+      let I = inv ranks h (T .world) (T .leads) right in
+      let m : Names (T .world .store s x .answer) (e .origin) (e .clock) = rw (T .related .answers s x p q, ne-eqb (e .clock) 0 z) (refl, refl) in
+      let f = I .site s .sets x (e .origin) (e .clock) m in
+      rank-same _ _ _ _ (right (e .origin) (e .clock) (held-issued (I .site s) x (e .origin) (e .clock) m)) (e .depends, T .related .store s x p q, refl)
+      (λ o c. f o c .1) (λ o c. f o c .0)
+
+  traced-updates : (o c : ℕ) → o < S .n → Retained S o c → ranks o c ≡ rank (S .updates o (place c) .depends)
+  traced-updates o c p R =
+      rank-one _ _ _ (right o c (omega (arith, R .lacks), omega (arith, R .made, T .related .count o p))) (_, T .related .updates o c p R .2, refl)
+
+  traced-live : (s o x v c : ℕ) → s < S .n → put o x v c ∈ h → Lacks h s o c → (o′ : ℕ) × (run ours S (Deliver s o′) .answer .code ≡ 0)
+  traced-live s o x v c p q l =
+      let e = causal .live s o x v c q l in
+      (e .0, delivers S (T .sound) (T .world) (T .related) s (e .0) .exactly .1 (p, e .1, e .2, e .3, e .4))
+
+pub traced-drains : {S : State} {h : History} → Traced S h → (s b o x v c : ℕ) → run ours S (Drain s b) .answer .code ≡ 0 → put o x v c ∈ h
     → Lacks (after-call ours S (Drain s b) (run ours S (Drain s b) .answer) h) s o c → ⊥
 unfolding refusals step
 traced-drains {S} {h} T s b o x v c z q l =
@@ -219,8 +246,17 @@ traced-drains {S} {h} T s b o x v c z q l =
     let e = traced-live (drain-traced T s b) s o x v c (omega (arith, drain-ready S s .0 (k .0) .site)) (in-right (put o x v c) (map (delivered s) (drained ours S s b .made)) h q) m in
     drain-ends ours S s b (subst (λ (x : Outcome). x .answer .code ≡ 0) (k .1) z) (e .0) (e .1)
 
-pub traced-causal : {S : State} {h : History} → Traced S h → Causal ours S (Abstracts S) (λ c. run ours S c .answer) h
-traced-causal {S} {h} T = record { runs = (T .world, T .leads, T .related); orders = λ s p. run-causal (T .leads) .orders s; live = traced-live T; drains = traced-drains T }
+pub traced-causal : {S : State} {h : History} → Traced S h → Causal S (λ c. run ours S c .answer) h
+traced-causal T =
+    record {
+      runs = (T .world, T .leads, T .related);
+      ranked = causal T .ranked;
+      entries = traced-entries T;
+      updates = traced-updates T;
+      orders = λ s p. causal T .orders s;
+      live = traced-live T;
+      drains = traced-drains T;
+    }
 
 -- ## Any calls
 
@@ -229,10 +265,10 @@ abbrev pub played : Engine → State → History → List Call → State × Hist
 played E S h [] = (S, h)
 played E S h (c ∷ cs) = played E (run E S c .after) (after-call E S c (run E S c .answer) h) cs
 
-played-traced : {S : State} {h : History} → Traced S h → (cs : List Call) → let p = played ours S h cs in Traced (p .0) (p .1)
+pub played-traced : {S : State} {h : History} → Traced S h → (cs : List Call) → let p = played ours S h cs in Traced (p .0) (p .1)
 played-traced T [] = T
 played-traced T (c ∷ cs) = played-traced (run-traced T c) cs
 
 -- from a freshly opened table
-pub played-causal : (n k : ℕ) → OpenReady n k → (cs : List Call) → let p = played ours (opened n k) [] cs in Causal ours (p .0) (Abstracts (p .0)) (λ c. run ours (p .0) c .answer) (p .1)
+pub played-causal : (n k : ℕ) → OpenReady n k → (cs : List Call) → let p = played ours (opened n k) [] cs in Causal (p .0) (λ c. run ours (p .0) c .answer) (p .1)
 played-causal n k R cs = traced-causal (played-traced (open-traced n k R) cs)

@@ -9,8 +9,8 @@ use borrow.Author.Tests.{eqb-true}
 use Rattle.clock.specs.Map.{if_then_else_}
 use Rattle.clock.specs.Vector.{Vector, zeros, join, note}
 use Rattle.clock.proofs.Maps.{at-is, at-same, le?}
-use Rattle.causal.specs.World.{Set, ∅, just, _∪_}
-use Rattle.causal.specs.Refines.{Tops, SameAnswers}
+use Rattle.causal.specs.World.{Set, ∅, just, _∪_, Tops}
+use Rattle.causal.specs.Refines.{SameAnswers}
 
 pub tops-none : Tops zeros ∅
 tops-none = record { eight = λ o c h. absurd h; above = λ o c h. absurd h; met = λ o h. inl refl }

@@ -1,12 +1,15 @@
--- Histories that no store may make: in each, some site has no order; and one that it may make, where every site has one. Assumes nothing.
+-- Histories that no store may make: in each, some site has no order; and two that it may make, where every site has one. Assumes nothing.
 use mathlib.Core.List.{[], _∷_}
 use Prim.Native.Nat.{ℕ}
 use Rattle.causal.specs.World.{never, wrote, put, get, look, adopt, update}
 use Rattle.clock.specs.Lists.{_∈_}
-use Rattle.causal.specs.History.{History, Ordered}
+use Rattle.causal.specs.History.{History, Ranks, Ranking, Ordered}
 
 abbrev pub NoOrder : History → (s : ℕ) → Type 0
-NoOrder h s = Ordered h s → ⊥
+NoOrder h s = (r : Ranks) → Ranking r h → Ordered r h s → ⊥
+
+abbrev pub HasOrder : History → (s : ℕ) → Type 0
+HasOrder h s = (r : Ranks) × Ranking r h × Ordered r h s
 
 -- 0 put 7, and 1 was handed 99 as that put
 abbrev pub forged : History
@@ -70,6 +73,22 @@ looked-at = update 2 1 1 2 9 ∷ put 1 2 9 1 ∷ look 1 1 (wrote 7 0 1) ∷ upda
 abbrev pub prophecy : History
 prophecy = put 0 5 7 1 ∷ get 1 5 (wrote 7 0 1) ∷ update 1 0 1 5 7 ∷ []
 
+-- case 13 of document 01: 0 and 1 put, each was handed the other's put, and 1 got 0's
+abbrev pub two-winners : History
+two-winners = get 1 0 (wrote 5 0 1) ∷ update 1 0 1 0 5 ∷ update 0 1 1 0 6 ∷ put 1 0 6 1 ∷ put 0 0 5 1 ∷ []
+
+-- the same, and both got 1's: this is as it should be
+abbrev pub one-winner : History
+one-winner = get 0 0 (wrote 6 1 1) ∷ get 1 0 (wrote 6 1 1) ∷ update 1 0 1 0 5 ∷ update 0 1 1 0 6 ∷ put 1 0 6 1 ∷ put 0 0 5 1 ∷ []
+
+-- 0 put two times, was handed 1's first put, of a lower rank, and got that: the newest
+abbrev pub newest-wins : History
+newest-wins = get 0 0 (wrote 6 1 1) ∷ update 0 1 1 0 6 ∷ put 0 0 7 2 ∷ put 1 0 6 1 ∷ put 0 0 5 1 ∷ []
+
+-- 1 overwrote 0's put, which it never got, and 2 was handed 1's put first
+abbrev pub overwriting-first : History
+overwriting-first = update 2 0 1 0 5 ∷ update 2 1 1 0 6 ∷ put 1 0 6 1 ∷ update 1 0 1 0 5 ∷ put 0 0 5 1 ∷ []
+
 pub record Anomalies : Type 0 where
   -- a put that nobody made
   pub invented : NoOrder forged 1
@@ -93,6 +112,12 @@ pub record Anomalies : Type 0 where
   -- an adopted put is waited for by the adopter's next put, and has come to the adopter before that; a looked-at one is not waited for
   pub adopted : NoOrder adopted-alone 2
   pub not-held : NoOrder adopted-unseen 1
-  pub looked : (s : ℕ) → Ordered looked-at s
+  pub looked : (s : ℕ) → HasOrder looked-at s
   -- a put that comes to its site from itself: it would stand twice
   pub from-itself : (h : History) (s c x v : ℕ) → update s s c x v ∈ h → NoOrder h s
+  -- a get that answers the lower origin of equal ranks, or the newest put where another has the higher rank; the higher origin is right
+  pub disagreed : NoOrder two-winners 1
+  pub agreed : (s : ℕ) → HasOrder one-winner s
+  pub newest : NoOrder newest-wins 0
+  -- a put before the one that it overwrote
+  pub overwritten : NoOrder overwriting-first 2

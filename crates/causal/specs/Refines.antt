@@ -2,27 +2,21 @@
 use mathlib.Core.Path.{_≡_}
 use mathlib.Core.Bool.{true, _||_}
 use mathlib.Core.List.{[], _∷_, _++_, map}
-use mathlib.Core.Logic.{_⊎_, _↔_, _≢_}
+use mathlib.Core.Logic.{_↔_, _≢_}
 use Prim.Native.Nat.{ℕ, zero, suc, _+_, _^_, _≤_, _<_}
 use lib.Dec.{eqb}
 use lib.ListN.{length}
 use Rattle.clock.specs.Map.{if_then_else_, bit}
 use Rattle.clock.specs.Lists.{_∈_}
-use Rattle.clock.specs.Vector.{Vector, join, note}
+use Rattle.clock.specs.Vector.{Vector, join, note, rank}
 use Rattle.layout.specs.State.{State, lastClock}
 use Rattle.rules.specs.Engine.{Engine, ours}
 use Rattle.rules.specs.Sound.{place, Retained, Sound}
 use Rattle.rules.specs.Steps.{Numbers, done, Outcome}
 use Rattle.rules.specs.Drain.{drained}
 use Rattle.rules.specs.Calls.{Call, Open, Put, Get, Deliver, Drain, Cold, Touch, Look, Adopt}
-use Rattle.causal.specs.World.{Set, just, _∪_, Answer, never, wrote, World, nth, waiting, Behind, CausesApplied, Event, put, get, look, adopt, update, Step, Run}
-use Rattle.causal.specs.History.{History, Ordered, Lacks}
-
--- "the greatest clock in the set, and 0 when there is none", for each site, over all eight columns
-pub record Tops (v : Vector) (d : Set) : Type 0 where
-  pub eight : (o c : ℕ) → d o c → o < 8
-  pub above : (o c : ℕ) → d o c → c ≤ v o
-  pub met : (o : ℕ) → o < 8 → (v o ≡ 0) ⊎ d o (v o)
+use Rattle.causal.specs.World.{Set, Tops, just, _∪_, Answer, never, wrote, World, nth, waiting, Behind, CausesApplied, Event, put, get, look, adopt, update, Step, Run}
+use Rattle.causal.specs.History.{History, Ranked, Ordered, Lacks}
 
 -- v is at most a in each of the eight columns
 abbrev pub Within : Vector → Vector → Type 0
@@ -48,11 +42,6 @@ pub record Abstracts (S : State) (W : World) : Type 0 where
   pub count : (o : ℕ) → o < S .n → length (W .updates o) ≡ S .applied o o
   pub updates : (o c : ℕ) → o < S .n → Retained S o c → let u = S .updates o (place c) in let w = nth (W .updates o) c in
       (w .key ≡ u .key) × (w .value ≡ u .value) × Tops (u .depends) (w .depends)
-
--- of which the counts and what the entries say: all that engines agree on
-pub record Shows (S : State) (W : World) : Type 0 where
-  pub applied : (s o : ℕ) → s < S .n → o < 8 → W .applied s o ≡ S .applied s o
-  pub answers : (s x : ℕ) → s < S .n → x < S .k → let e = S .store s x in W .store s x .answer ≡ answer (e .value) (e .origin) (e .clock)
 
 -- the five numbers that an answer says, and a label: "all three answer alike"
 abbrev pub told : (key : ℕ) → Answer → Numbers
@@ -127,19 +116,23 @@ pub record Follows (S : State) (W : World) (result : Call → Outcome) : Type 1 
   pub tells : (s o : ℕ) → Tells S W s o (result (Deliver s o) .answer)
 
 -- a table that answers calls so, and the history of its calls since it was opened
-pub record Causal (E : Engine) (S : State) (has : World → Type 0) (answers : Call → Numbers) (h : History) : Type 1 where
-  -- the history is a run of figure 7, of n sites and k keys, and the table has of its world what it must
-  pub runs : (W : World) × Run (S .n) (S .k) h W × has W
+pub record Causal (S : State) (answers : Call → Numbers) (h : History) : Type 1 where
+  -- the history is a run of figure 7, of n sites and k keys, and the table has its world
+  pub runs : (W : World) × Run (S .n) (S .k) h W × Abstracts S W
+  -- each put has its rank, and no other: the sum of the columns of its vector, in every entry and in every update that some site lacks
+  pub ranked : Ranked h
+  pub entries : (s x : ℕ) → s < S .n → x < S .k → let e = S .store s x in e .clock ≢ 0 → ranked .ranks (e .origin) (e .clock) ≡ rank (e .depends)
+  pub updates : (o c : ℕ) → o < S .n → Retained S o c → ranked .ranks o c ≡ rank (S .updates o (place c) .depends)
   -- each site has its order
-  pub orders : (s : ℕ) → s < S .n → Ordered h s
+  pub orders : (s : ℕ) → s < S .n → Ordered (ranked .ranks) h s
   -- while a site lacks an accepted put, some delivery to it is accepted
   pub live : (s o x v c : ℕ) → s < S .n → put o x v c ∈ h → Lacks h s o c → (o′ : ℕ) × (answers (Deliver s o′) .code ≡ 0)
   -- a drain that answers 0 has left its site holding every accepted put
   pub drains : (s b o x v c : ℕ) → answers (Drain s b) .code ≡ 0 → put o x v c ∈ h
-      → Lacks (after-call E S (Drain s b) (answers (Drain s b)) h) s o c → ⊥
+      → Lacks (after-call ours S (Drain s b) (answers (Drain s b)) h) s o c → ⊥
 
 -- so each put of the history is one that the table counts
 abbrev pub PutsCounted : Type 1
 PutsCounted =
-    (E : Engine) (S : State) (answers : Call → Numbers) (h : History) → Causal E S (Abstracts S) answers h → (o x v c : ℕ) → put o x v c ∈ h
+    (S : State) (answers : Call → Numbers) (h : History) → Causal S answers h → (o x v c : ℕ) → put o x v c ∈ h
     → (o < S .n) × (1 ≤ c) × (c ≤ S .applied o o)

@@ -1,11 +1,13 @@
 -- Chapar's figure 7: worlds (its tuples, as maps by site), labels, and the rules PUT, GET and UPDATE, without the clients' statements;
--- and GET in two, LOOK and ADOPT. Assumes nothing.
+-- GET in two, LOOK and ADOPT; and PUT and UPDATE as request (e) amends them, with ranks. Assumes nothing.
 use mathlib.Core.Path.{_≡_}
+use mathlib.Core.Bool.{Bool, true}
 use mathlib.Core.List.{List, [], _∷_, _++_}
-use mathlib.Core.Logic.{_⊎_, _≢_}
+use mathlib.Core.Logic.{_⊎_, _↔_, _≢_}
 use Prim.Native.Nat.{ℕ, suc, _-_, _≤_, _<_}
 use lib.ListN.{length, getD}
-use Rattle.clock.specs.Map.{_⟨_≔_⟩, _⟨_⟩⟨_≔_⟩}
+use Rattle.clock.specs.Map.{if_then_else_, _⟨_≔_⟩, _⟨_⟩⟨_≔_⟩}
+use Rattle.clock.specs.Vector.{Vector, rank}
 
 -- D: a set of puts, each named by the pair of its site and its clock
 abbrev pub Set : Type 1
@@ -20,6 +22,16 @@ just o c o′ c′ = (o′ ≡ o) × (c′ ≡ c)
 infixl 60 _∪_
 abbrev pub _∪_ : Set → Set → Set
 _∪_ d e o c = d o c ⊎ e o c
+
+-- "the greatest clock in the set, and 0 when there is none", for each site, over all eight columns
+pub record Tops (v : Vector) (d : Set) : Type 0 where
+  pub eight : (o c : ℕ) → d o c → o < 8
+  pub above : (o c : ℕ) → d o c → c ≤ v o
+  pub met : (o : ℕ) → o < 8 → (v o ≡ 0) ⊎ d o (v o)
+
+-- the rank of a put with the set d: the sum, over sites, of these
+abbrev pub Rank : Set → ℕ → Type 0
+Rank d r = (v : Vector) × Tops v d × (r ≡ rank v)
 
 -- U: what a put sends
 pub record Update : Type 1 where
@@ -60,15 +72,16 @@ abbrev pub learned : Answer → Set → Set
 learned never d = ∅
 learned (wrote v o c) d = just o c ∪ d
 
--- what the steps leave; |u′| is the clock of the put
+-- what the steps leave; |u′| is the clock of the put, which "first takes on the dependence of the entry it overwrites, as a get would"
 abbrev pub withPut : World → (s x v : ℕ) → World
 withPut W s x v =
     let c = suc (length (W .updates s)) in
+    let d = W .depends s ∪ learned (W .store s x .answer) (W .store s x .depends) in
     record {
-      depends = W .depends ⟨ s ≔ W .depends s ∪ just s c ⟩;
-      updates = W .updates ⟨ s ≔ W .updates s ++ (record { key = x; value = v; depends = W .depends s } ∷ []) ⟩;
+      depends = W .depends ⟨ s ≔ d ∪ just s c ⟩;
+      updates = W .updates ⟨ s ≔ W .updates s ++ (record { key = x; value = v; depends = d } ∷ []) ⟩;
       applied = W .applied ⟨ s ⟩⟨ s ≔ suc (W .applied s s) ⟩;
-      store = W .store ⟨ s ⟩⟨ x ≔ record { answer = wrote v s c; depends = ∅ } ⟩;
+      store = W .store ⟨ s ⟩⟨ x ≔ record { answer = wrote v s c; depends = d } ⟩;
     }
 
 abbrev pub withGet : World → (s x : ℕ) → World
@@ -76,15 +89,22 @@ withGet W s x =
     let e = W .store s x in
     record { depends = W .depends ⟨ s ≔ W .depends s ∪ learned (e .answer) (e .depends) ⟩; updates = W .updates; applied = W .applied; store = W .store }
 
-abbrev pub withUpdate : World → (s o : ℕ) → World
-withUpdate W s o =
+-- the update replaces the entry; "otherwise only the applied count rises"
+abbrev pub withUpdate : World → (s o : ℕ) → (replaces : Bool) → World
+withUpdate W s o replaces =
     let u = waiting W s o in
     record {
       depends = W .depends;
       updates = W .updates;
       applied = W .applied ⟨ s ⟩⟨ o ≔ due W s o ⟩;
-      store = W .store ⟨ s ⟩⟨ u .key ≔ record { answer = wrote (u .value) o (due W s o); depends = u .depends } ⟩;
+      store = if replaces then W .store ⟨ s ⟩⟨ u .key ≔ record { answer = wrote (u .value) o (due W s o); depends = u .depends } ⟩ else W .store;
     }
+
+-- an update of o with the set d replaces what the answer and the set e say: "if that is never written, or if the update's rank is higher,
+-- or equal with an origin not lower"
+abbrev pub Replaces : (o : ℕ) → (d : Set) → Answer → (e : Set) → Type 0
+Replaces o d never e = Unit {0}
+Replaces o d (wrote v o′ c′) e = (r : ℕ) × (r′ : ℕ) × Rank d r × Rank e r′ × ((r′ < r) ⊎ ((r′ ≡ r) × (o′ ≤ o)))
 
 -- UPDATE's premises: a₁(n₂) < |u₂|; and for each pair in the update's set, the count of that site is at least the clock
 abbrev pub Behind : World → (s o : ℕ) → Type 0
@@ -108,8 +128,9 @@ pub data Step (n k : ℕ) (W : World) : Event → World → Type 1 where
   -- GET's answer and no change; GET's change
   LOOK : (s x : ℕ) → s < n → x < k → Step n k W (look s x (W .store s x .answer)) W
   ADOPT : (s x : ℕ) → s < n → x < k → Step n k W (adopt s x (W .store s x .answer)) (withGet W s x)
-  UPDATE : (s o : ℕ) → s < n → o < n → s ≢ o → Behind W s o → CausesApplied W s o
-      → Step n k W (update s o (due W s o) (waiting W s o .key) (waiting W s o .value)) (withUpdate W s o)
+  UPDATE : (s o : ℕ) (b : Bool) → s < n → o < n → s ≢ o → Behind W s o → CausesApplied W s o
+      → (let u = waiting W s o in let e = W .store s (u .key) in (b ≡ true) ↔ Replaces o (u .depends) (e .answer) (e .depends))
+      → Step n k W (update s o (due W s o) (waiting W s o .key) (waiting W s o .value)) (withUpdate W s o b)
 
 -- before any step
 abbrev pub start : World

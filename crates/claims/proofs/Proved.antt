@@ -8,6 +8,7 @@ use Rattle.rules.specs.Engine.{short, ours}
 use Rattle.rules.specs.Cases.{Case, cases, starred, starred-short}
 use Rattle.rules.specs.TouchCases.{parts, forms, kinds, touches, touched-so, listed-so, words-first}
 use Rattle.rules.specs.LookCases.{looks, looked-so}
+use Rattle.rules.specs.RankCases.{ranks, ranked-so}
 use Rattle.rules.specs.ShortCases.{long-chain, short-chain, shorts, short-so}
 use Rattle.rules.specs.Bounds.{bounds, at-bounds}
 use Rattle.rules.specs.SoundCases.{fact-by-fact}
@@ -29,9 +30,10 @@ use Rattle.causal.proofs.Handed.{applied-exactly}
 use Rattle.causal.proofs.Counted.{puts-counted}
 use Rattle.causal.proofs.Anomaly.{anomalies}
 use Rattle.demands.proofs.Proved.{demand1, demand2, demand3}
-use Rattle.demands.proofs.Agreed.{agreement, demand3-short}
+use Rattle.demands.proofs.Agreed.{agreement}
+use Rattle.demands.proofs.Stores.{one-winner, drained-equal}
 use Rattle.demands.proofs.Drained.{nothing-delivered}
-use Rattle.demands.proofs.Schedule.{history, history-looking, history-adopting, causal}
+use Rattle.demands.proofs.Schedule.{history, history-looking, history-adopting, history-winning, causal}
 use Rattle.table.specs.NoSecond.{open-no-second, put-no-second, get-no-second, look-no-second, adopt-no-second, deliver-no-second, drain-no-second, touch-no-second}
 use Rattle.cold.specs.NoSecond.{cold-no-second}
 use Rattle.forkcanyon.specs.NoSecond.{fc-open-no-second, fc-put-no-second, fc-get-no-second, fc-look-no-second, fc-adopt-no-second, fc-deliver-no-second, fc-drain-no-second, fc-touch-no-second}
@@ -44,7 +46,7 @@ use Rattle.schedule.specs.Theorems.{play-no-second, written-no-second}
 use Rattle.schedule.proofs.Rest.{rest-ignored, always-ends}
 use Rattle.claims.specs.Claims.{Claims}
 
-which : map (λ (c : Case). c .number) cases ≡ 1 ∷ 3 ∷ 4 ∷ 5 ∷ 6 ∷ 7 ∷ 9 ∷ 10 ∷ 11 ∷ 12 ∷ 13 ∷ 15 ∷ 15 ∷ 0 ∷ []
+which : map (λ (c : Case). c .number) (cases []) ≡ 1 ∷ 3 ∷ 4 ∷ 5 ∷ 6 ∷ 7 ∷ 9 ∷ 10 ∷ 11 ∷ 12 ∷ 13 ∷ 15 ∷ 15 ∷ 0 ∷ []
 unfolding cases
 which = refl
 
@@ -64,11 +66,16 @@ five : length shorts ≡ 5
 unfolding shorts
 five = refl
 
+six-ranks : length ranks ≡ 6
+unfolding ranks
+six-ranks = refl
+
 pub claims : Claims
 claims =
     record {
       demands = record { one = demand1 ours ours-fits; nothing-delivered = nothing-delivered; two = demand2; three = demand3 };
-      engines = record { agreement = agreement; one-short = demand1 short short-fits; three-short = demand3-short; engine-free = engine-free };
+      stores = record { one-winner = one-winner; drained = drained-equal };
+      engines = record { agreement = agreement; one-short = demand1 short short-fits; engine-free = engine-free };
       histories =
           record {
             every-run = run-causal;
@@ -79,6 +86,7 @@ claims =
             schedule = λ t size. (history t size, causal t size);
             looking = history-looking;
             adopting = history-adopting;
+            winning = history-winning;
           };
       outcomes =
           record {
@@ -118,6 +126,7 @@ claims =
             touches = (touched-so, ten);
             records = (parts, forms, kinds, listed-so, words-first);
             looks = (looked-so, eight);
+            ranks = (ranked-so, six-ranks);
             starred-short = starred-short;
             chains = (long-chain, short-chain);
             shorts = (short-so, five);

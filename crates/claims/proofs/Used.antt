@@ -1,30 +1,34 @@
 -- Every use follows from the claims, by their fields. Assumes nothing.
 use mathlib.Core.Path.{_≡_, refl, sym, ap, subst, _∙_}
 use mathlib.Core.List.{List, [], _∷_}
-use mathlib.Core.Logic.{inl, inr, ⊎-elim, _≢_}
-use Prim.Native.Nat.{ℕ, suc, _≤_, _<_}
+use mathlib.Core.Bool.{Bool, true}
+use mathlib.Core.Logic.{_↔_, inl, inr, ⊎-elim, _≢_}
+use Prim.Native.Nat.{ℕ, zero, suc, _≤_, _<_}
 use native.Mathlib.Omega.{arith}
 use lib.Dec.{eqb}
 use lib.ListN.{length}
-use borrow.Author.Tests.{eq-eqb}
+use borrow.Author.Tests.{eq-eqb, ne-eqb}
 use Rattle.clock.specs.Map.{if_then_else_}
 use Rattle.clock.specs.Lists.{_∈_}
-use Rattle.clock.proofs.Maps.{true-or-false}
-use Rattle.layout.specs.State.{State, stateOf, lastClock}
+use Rattle.clock.proofs.Maps.{eq?, true-or-false}
+use Rattle.layout.specs.State.{State, Entry, stateOf, lastClock}
 use Rattle.layout.specs.Ranges.{Bytes}
 use Rattle.rules.specs.Engine.{Engine, long, short, ours}
 use Rattle.rules.specs.Sound.{Sound}
-use Rattle.rules.specs.Steps.{Numbers, Outcome, refused}
+use Rattle.rules.specs.Steps.{Numbers, Outcome, refused, done}
 use Rattle.rules.specs.Refusals.{get-refusals}
-use Rattle.rules.specs.Calls.{Call, Put, Get, Adopt, Deliver, Drain, refusals, asks, Served, serve}
+use Rattle.rules.specs.Calls.{Call, Open, Put, Get, Adopt, Deliver, Drain, refusals, asks, Served, serve}
+use Rattle.laws.proofs.Ranks.{Under}
 use Rattle.laws.specs.Agreement.{SameTable, SameAnswer}
-use Rattle.causal.specs.World.{Answer, wrote, World, due, waiting, withPut, withGet, withUpdate, Event, put, get, look, adopt, update, Step, PUT, GET, LOOK, ADOPT, UPDATE, Run, more}
-use Rattle.causal.specs.History.{History, Write, Read, Reads, op, order, Ordered, Cause, direct}
-use Rattle.causal.specs.Refines.{Abstracts, Follows, Refines, numbers, after-call, Causal}
+use Rattle.causal.specs.World.{Rank, Answer, never, wrote, World, due, waiting, withPut, withGet, withUpdate, Replaces, Event, put, get, look, adopt, update, Step, PUT, GET, LOOK, ADOPT, UPDATE, Run, more}
+use Rattle.causal.specs.History.{History, Write, Read, Reads, op, order, Ranks, lookup, Ranking, Ordered, Cause, direct}
+use Rattle.causal.specs.Refines.{Abstracts, answer, Follows, Refines, numbers, after-call, Causal}
 use Rattle.causal.specs.Anomalies.{looked-at}
-use Rattle.causal.proofs.Sites.{clash}
-use Rattle.causal.proofs.Handed.{came, behind, own, arrived, stands, stands-before}
-use Rattle.demands.specs.Demands.{Demand1, Delivered, none, next}
+use Rattle.causal.proofs.Updates.{clash}
+use Rattle.causal.proofs.Sites.{lookup-in}
+use Rattle.causal.proofs.Highest.{lookup-most}
+use Rattle.causal.proofs.Handed.{came, behind, arrived, stands, stands-before}
+use Rattle.demands.specs.Demands.{Demand1, Delivered, none, next, play}
 use Rattle.demands.proofs.Drained.{same-bytes}
 use Rattle.claims.specs.Uses.{OfBuffer, OfTable, OfHistory, OfBoth, Uses}
 use Rattle.claims.proofs.Proved.{claims}
@@ -80,19 +84,27 @@ label W (look s x a) = look s x (W .store s x .answer)
 label W (adopt s x a) = adopt s x (W .store s x .answer)
 label W (update s o c x v) = update s o (due W s o) (waiting W s o .key) (waiting W s o .value)
 
-abbrev leaves : World → Event → World
-leaves W (put s x v c) = withPut W s x v
-leaves W (get s x a) = withGet W s x
-leaves W (look s x a) = W
-leaves W (adopt s x a) = withGet W s x
-leaves W (update s o c x v) = withUpdate W s o
+-- with whether an update replaced
+abbrev leaves : World → Event → Bool → World
+leaves W (put s x v c) b = withPut W s x v
+leaves W (get s x a) b = withGet W s x
+leaves W (look s x a) b = W
+leaves W (adopt s x a) b = withGet W s x
+leaves W (update s o c x v) b = withUpdate W s o b
 
-step-is : {n k : ℕ} {W W′ : World} {e : Event} → Step n k W e W′ → (e ≡ label W e) × (W′ ≡ leaves W e)
-step-is (PUT s x v p q) = (refl, refl)
-step-is (GET s x p q) = (refl, refl)
-step-is (LOOK s x p q) = (refl, refl)
-step-is (ADOPT s x p q) = (refl, refl)
-step-is (UPDATE s o p q d f g) = (refl, refl)
+abbrev Judged : World → Event → Bool → Type 0
+Judged W (put s x v c) b = Unit {0}
+Judged W (get s x a) b = Unit {0}
+Judged W (look s x a) b = Unit {0}
+Judged W (adopt s x a) b = Unit {0}
+Judged W (update s o c x v) b = let u = waiting W s o in let e = W .store s (u .key) in (b ≡ true) ↔ Replaces o (u .depends) (e .answer) (e .depends)
+
+step-is : {n k : ℕ} {W W′ : World} {e : Event} → Step n k W e W′ → (e ≡ label W e) × (b : Bool) × (W′ ≡ leaves W e b) × Judged W e b
+step-is (PUT s x v p q) = (refl, true, refl, tt)
+step-is (GET s x p q) = (refl, true, refl, tt)
+step-is (LOOK s x p q) = (refl, true, refl, tt)
+step-is (ADOPT s x p q) = (refl, true, refl, tt)
+step-is (UPDATE s o b p q d f g i) = (refl, b, refl, i)
 
 newest : {e f : Event} → e ∷ [] ≡ f ∷ [] → f ≡ e
 newest k = cc
@@ -100,25 +112,31 @@ newest k = cc
 -- an accepted call whose event is known
 settled : {S : State} {W : World} {c : Call} {P : Type 0} {r : Outcome} → Refines S W c P r → P → (e : Event)
     → after-call ours S c (r .answer) [] ≡ (if eqb (r .answer .code) 0 then e ∷ [] else [])
-    → (r .answer ≡ numbers (label W e)) × Abstracts (r .after) (leaves W e) × Sound (r .after)
+    → (r .answer ≡ numbers (label W e)) × ((b : Bool) × Abstracts (r .after) (leaves W e b) × Judged W e b) × Sound (r .after)
 settled {W = W} {r = r} R p e is =
     let z = R .exactly .1 p in
     let Q = R .accepted z in
     let k : Q .event ≡ e = newest (rw (eq-eqb _ 0 z) at (sym is ∙ Q .call [])) in
     let i = step-is (Q .step) in (
       Q .answer ∙ ap numbers (i .0) ∙ ap (λ (f : Event). numbers (label W f)) k,
-      subst (λ (f : Event). Abstracts (r .after) (leaves W f)) k (subst (Abstracts (r .after)) (i .1) (Q .abstracts)),
+      subst (λ (f : Event). (b : Bool) × Abstracts (r .after) (leaves W f b) × Judged W f b) k (i .1, subst (Abstracts (r .after)) (i .2) (Q .abstracts), i .3),
       Q .sound,
     )
+
+-- of an event that is no update
+settled-so : {S : State} {W W′ : World} {c : Call} {P : Type 0} {r : Outcome} → Refines S W c P r → P → (e : Event) → ((b : Bool) → leaves W e b ≡ W′)
+    → after-call ours S c (r .answer) [] ≡ (if eqb (r .answer .code) 0 then e ∷ [] else [])
+    → (r .answer ≡ numbers (label W e)) × Abstracts (r .after) W′ × Sound (r .after)
+settled-so {r = r} R p e left is = let (a, A, D) = settled R p e is in (a, subst (Abstracts (r .after)) (left (A .0)) (A .1), D)
 
 of-table : (t : List ℕ) (W : World) → Follows (stateOf t) W (λ c. let r = serve ours t c in record { answer = r .answer; after = stateOf (r .bytes) }) → OfTable t W
 of-table t W F =
     record {
-      puts = λ s x v b p q l f. settled (F .puts s x v b) (p, q, omega arith, f) (put s x v _) refl;
-      gets = λ s x p q. settled (F .gets s x) (p, q) (get s x _) refl;
-      looks = λ s x p q. settled (F .looks s x) (p, q) (look s x _) refl;
-      adopts = λ s x v o c p q e. let (a, A, D) = settled (F .adopts s x o c) (p, q, rw e, rw e) (adopt s x _) refl in (rw e at a, A, D);
-      adopts-none = λ s x p q e. let (a, A, D) = settled (F .adopts s x 0 0) (p, q, rw e, rw e) (adopt s x _) refl in (rw e at a, A, D);
+      puts = λ s x v b p q l f. settled-so (F .puts s x v b) (p, q, omega arith, f) (put s x v _) (λ b. refl) refl;
+      gets = λ s x p q. settled-so (F .gets s x) (p, q) (get s x _) (λ b. refl) refl;
+      looks = λ s x p q. settled-so (F .looks s x) (p, q) (look s x _) (λ b. refl) refl;
+      adopts = λ s x v o c p q e. let (a, A, D) = settled-so (F .adopts s x o c) (p, q, rw e, rw e) (adopt s x _) (λ b. refl) refl in (rw e at a, A, D);
+      adopts-none = λ s x p q e. let (a, A, D) = settled-so (F .adopts s x 0 0) (p, q, rw e, rw e) (adopt s x _) (λ b. refl) refl in (rw e at a, A, D);
       changed = λ s x v o c o′ c′ e d.
           let R = F .adopts s x o′ c′ in
           let no : serve ours t (Adopt s x o′ c′) .answer .code ≢ 0 = λ z. let k = R .exactly .0 z in d (cc (e, k .2)) (cc (e, k .3)) in
@@ -152,11 +170,15 @@ of-table t W F =
 
 -- ## Demand 3
 
--- a get and a look answer the write that stands right before them
-reads-newest : (s o c x v : ℕ) (a : Answer) (f e : Event) (g : History) → op s f ≡ Read x a ∷ [] → op s e ≡ Write o c x v ∷ []
-    → Reads (order s (f ∷ e ∷ g)) → a ≡ wrote v o c
+-- a get and a look answer no put lower than the write that stands right before them
+reads-highest : (r : Ranks) (s o c x v : ℕ) (a : Answer) (f e : Event) (g : History) → op s f ≡ Read x a ∷ [] → op s e ≡ Write o c x v ∷ [] → Reads r (order s (f ∷ e ∷ g))
+    → (v′ o′ c′ : ℕ) × (a ≡ wrote v′ o′ c′) × Under (r o c) o (r o′ c′) o′ × Write o′ c′ x v′ ∈ order s (f ∷ e ∷ g)
 unfolding order
-reads-newest s o c x v a f e g j k r = rw (j, k, eq-eqb x x refl) at (r) .0
+reads-highest r s o c x v a f e g j k R =
+    let l = Write o c x v ∷ order s g in
+    let i : a ≡ lookup r x l = rw (j, k) at (R) .0 in
+    let (v′, o′, c′, p, u) = lookup-most r x l o c v (inl refl) in
+    (v′, o′, c′, i ∙ p, u, rw (j, k) (inr (lookup-in r x l v′ o′ c′ p)))
 
 got : (s x : ℕ) (a : Answer) → op s (get s x a) ≡ Read x a ∷ []
 unfolding op
@@ -167,64 +189,78 @@ unfolding op
 looked s x a = rw (eq-eqb s s refl)
 
 -- the causes of what came last stand before it
-cause : (g : History) (s o c x v o′ c′ : ℕ) → s ≢ o′ → Ordered (update s o c x v ∷ g) s → Cause (update s o c x v ∷ g) o′ c′ o c
+cause : (r : Ranks) (g : History) (s o c x v o′ c′ : ℕ) → s ≢ o′ → Ordered r (update s o c x v ∷ g) s → Cause r (update s o c x v ∷ g) o′ c′ o c
     → (x′ : ℕ) × (v′ : ℕ) × update s o′ c′ x′ v′ ∈ g
 unfolding order
-cause g s o c x v o′ c′ d O k =
+cause r g s o c x v o′ c′ d O k =
     let (x′, v′, b) = O .caused o c x v o′ c′ (stands s (Write o c x v) (update s o c x v) (arrived s o c x v) (update s o c x v ∷ g) (inl refl)) k in
     let q = behind (Write o c x v) (order s g) (Write o′ c′ x′ v′) (Write o c x v) (rw (arrived s o c x v) at b) in
     (x′, v′, ⊎-elim (λ p. absurd (d (sym (p .0)))) (λ p. p) (came s g o′ c′ x′ v′ q))
 
--- an adopt is of what stands in the world, and an update stands there
-adopts-newest : {n k s o c x v : ℕ} {a : Answer} {g : History} {W : World} → Run n k (adopt s x a ∷ update s o c x v ∷ g) W → a ≡ wrote v o c
-adopts-newest {s = s} {o} {c} {x} {a = a} (more (more {W = W} R q) p) =
-    let (e, d) = step-is q in
-    let f = step-is p .0 in
-    let y : waiting W s o .key ≡ x = cc in
-    let k : a ≡ withUpdate W s o .store s x .answer = cc in
-    k ∙ rw (eq-eqb s s refl, eq-eqb _ x y) (cc)
+-- a put stands in the world that it leaves
+put-stands : {n k s x v c : ℕ} {W W′ : World} → Step n k W (put s x v c) W′ → W′ .store s x .answer ≡ wrote v s c
+put-stands {s = s} {x} q =
+    let (e, b, d, j) = step-is q in
+    ap (λ (W′ : World). W′ .store s x .answer) d ∙ rw (eq-eqb s s refl, eq-eqb x x refl) (cc)
 
-of-history : (t : List ℕ) (h : History) → Causal ours (stateOf t) (Abstracts (stateOf t)) (λ c. serve ours t c .answer) h → OfHistory t h
+got-own : {n k s x v c : ℕ} {a : Answer} {g : History} {W : World} → Run n k (get s x a ∷ put s x v c ∷ g) W → a ≡ wrote v s c
+got-own {s = s} {x} {a = a} (more {W = W′} (more R q) p) = let f = step-is p .0 in let k : a ≡ W′ .store s x .answer = cc in k ∙ put-stands q
+
+looked-own : {n k s x v c : ℕ} {a : Answer} {g : History} {W : World} → Run n k (look s x a ∷ put s x v c ∷ g) W → a ≡ wrote v s c
+looked-own {s = s} {x} {a = a} (more {W = W′} (more R q) p) = let f = step-is p .0 in let k : a ≡ W′ .store s x .answer = cc in k ∙ put-stands q
+
+adopted-own : {n k s x v c : ℕ} {a : Answer} {g : History} {W : World} → Run n k (adopt s x a ∷ put s x v c ∷ g) W → a ≡ wrote v s c
+adopted-own {s = s} {x} {a = a} (more {W = W′} (more R q) p) = let f = step-is p .0 in let k : a ≡ W′ .store s x .answer = cc in k ∙ put-stands q
+
+of-history : (t : List ℕ) (h : History) → Causal (stateOf t) (λ c. serve ours t c .answer) h → OfHistory t h
 of-history t h C =
     record {
-      own-put = λ g s x v c a e.
-          let q : put s x v c ∈ h = rw e (inr (inl refl)) in
-          reads-newest s s c x v a (get s x a) (put s x v c) g (got s x a) (own s s c x v refl) (at (counts s x v c q .0) e .reads);
-      own-look = λ g s x v c a e.
-          let q : put s x v c ∈ h = rw e (inr (inl refl)) in
-          reads-newest s s c x v a (look s x a) (put s x v c) g (looked s x a) (own s s c x v refl) (at (counts s x v c q .0) e .reads);
-      handed-put = λ g s o x v c a l e.
-          reads-newest s o c x v a (get s x a) (update s o c x v) g (got s x a) (arrived s o c x v) (at l e .reads);
-      handed-look = λ g s o x v c a l e.
-          reads-newest s o c x v a (look s x a) (update s o c x v) g (looked s x a) (arrived s o c x v) (at l e .reads);
+      own-put = λ g s x v c a e. let (W, R, A) = C .runs in got-own (subst (λ (h : History). Run (stateOf t .n) (stateOf t .k) h W) e R);
+      own-look = λ g s x v c a e. let (W, R, A) = C .runs in looked-own (subst (λ (h : History). Run (stateOf t .n) (stateOf t .k) h W) e R);
+      handed-put = λ g s o x v c a. handed g s o x v c a (get s x a) (got s x a);
+      handed-look = λ g s o x v c a. handed g s o x v c a (look s x a) (looked s x a);
+      entry-rank = λ s x v p y z q r K. C .ranked .only r K _ x v _ q ∙ C .entries s x p y z;
+      update-rank = λ o x v c q R r K. C .ranked .only r K o x v c q ∙ C .updates o c (counts o x v c q .0) R;
       made = λ g s o c x v l e. behind (update s o c x v) g (put o x v c) (update s o c x v) (at l e .put-first o c x v (inl refl));
       once = λ g s o c x v x′ v′ l e q.
           at l e .once o c x′ v′ x v
           (stands-before s (Write o c x′ v′) (Write o c x v) (update s o c x′ v′) (update s o c x v) (arrived s o c x′ v′) (arrived s o c x v) _ (inl (refl, q)));
-      caused = λ g s o c x v o′ c′ l d e k. cause g s o c x v o′ c′ d (at l e) (subst (λ (h : History). Cause h o′ c′ o c) e k);
+      caused = λ g s o c x v o′ c′ l d e. (ranks, C .ranked .ranking, λ k. cause ranks g s o c x v o′ c′ d (at l e) (subst (λ (h : History). Cause ranks h o′ c′ o c) e k));
       adopted = λ g s o c x v y w o′ c′ l d e i.
-          let (x′, v′, q) = cause _ s o c x v o′ c′ d (at l e) (direct (adopt o y (wrote w o′ c′)) o x v c o′ c′ (inr (inl (refl, i))) (refl, (refl, refl))) in
+          let (x′, v′, q) = cause ranks _ s o c x v o′ c′ d (at l e) (direct _ o x v c o′ c′ (inr (inl (refl, refl))) (inl (adopt o y (wrote w o′ c′), i, (refl, (refl, refl))))) in
           (x′, v′, ⊎-elim (λ r. clash (cc)) (λ r. r) q);
-      adopts-handed = λ g s o x v c a e. let (W, R, A) = C .runs in adopts-newest (subst (λ (h : History). Run (stateOf t .n) (stateOf t .k) h W) e R);
+      adopts-own = λ g s x v c a e. let (W, R, A) = C .runs in adopted-own (subst (λ (h : History). Run (stateOf t .n) (stateOf t .k) h W) e R);
       counted = λ o x v c q. counts o x v c q .2;
       live = λ s o x v c l d e. C .live s o x v c l (rw e (inl refl)) ((λ z. d (sym z)), λ y w q. never-handed (subst (λ (h : History). update s o c y w ∈ h) e q));
       drains = λ s o b x v c d e z. C .drains s b o x v c z (rw e (inl refl));
     }
   where
     counts : (o x v c : ℕ) → put o x v c ∈ h → (o < stateOf t .n) × (1 ≤ c) × (c ≤ stateOf t .applied o o)
-    counts = claims .histories .puts-counted ours (stateOf t) (λ c. serve ours t c .answer) h C
+    counts = claims .histories .puts-counted (stateOf t) (λ c. serve ours t c .answer) h C
 
-    at : {s : ℕ} {g : History} → s < stateOf t .n → h ≡ g → Ordered g s
-    at {s} l e = subst (λ (h : History). Ordered h s) e (C .orders s l)
+    ranks : Ranks
+    ranks = C .ranked .ranks
+
+    at : {s : ℕ} {g : History} → s < stateOf t .n → h ≡ g → Ordered ranks g s
+    at {s} l e = subst (λ (h : History). Ordered ranks h s) e (C .orders s l)
+
+    handed : (g : History) (s o x v c : ℕ) (a : Answer) (f : Event) → op s f ≡ Read x a ∷ [] → s < stateOf t .n → h ≡ f ∷ update s o c x v ∷ g
+        → (r : Ranks) → Ranking r h → (v′ o′ c′ : ℕ) × (a ≡ wrote v′ o′ c′) × Under (r o c) o (r o′ c′) o′
+    handed g s o x v c a f i l e r K =
+        let (v′, o′, c′, p, u, w) = reads-highest ranks s o c x v a f (update s o c x v) g i (arrived s o c x v) (at l e .reads) in
+        let made : (o c v : ℕ) → Write o c x v ∈ order s h → r o c ≡ ranks o c = λ o c v q. C .ranked .only r K o x v c (claims .histories .applied-exactly ranks h s (C .orders s l) o c x v .0 q .0) in
+        let n = made o c v (stands s _ (update s o c x v) (arrived s o c x v) h (rw e (inr (inl refl)))) in
+        let n′ = made o′ c′ v′ (subst (λ (h : History). Write o′ c′ x v′ ∈ order s h) (sym e) w) in
+        (v′, o′, c′, p, rw (n, n′) u)
 
     never-handed : {s o c y w o₁ x v c₁ : ℕ} → update s o c y w ∈ (put o₁ x v c₁ ∷ []) → ⊥
     never-handed (inl q) = clash (cc)
     never-handed (inr q) = q
 
 -- in looked-at, 2 has 1's put alone
-no-cause : Ordered looked-at 2 → Cause looked-at 0 1 1 1 → ⊥
+no-cause : (r : Ranks) → Ordered r looked-at 2 → Cause r looked-at 0 1 1 1 → ⊥
 unfolding order op
-no-cause O k = ⊎-elim (λ p. p .1) (λ p. p) (O .caused 1 1 2 9 0 1 (inl refl) k .2)
+no-cause r O k = ⊎-elim (λ p. p .1) (λ p. p) (O .caused 1 1 2 9 0 1 (inl refl) k .2)
 
 -- ## Both engines
 
@@ -248,23 +284,22 @@ pub uses : Uses
 uses =
     record {
       nothing = (nothing-is-one (claims .demands .one), nothing-is-one (claims .engines .one-short));
-      engines = λ t n k z cs f.
-          let A = claims .engines .agreement t n k z cs f in (
-            of-both (A .0, A .1),
-            λ s p. subst (λ (h : History). Ordered h s) (sym (A .2)) (claims .demands .three t n k z cs f .orders s (omega (arith, A .0 .sites))),
-          );
+      engines = λ t n k z cs f. let A = claims .engines .agreement t n k z cs f in (of-both (A .0, A .1), A .2);
       either = λ t n k s x now T m. let F = claims .engines .engine-free in (F .opens short ours t n k, F .looks short ours t s x, F .lists short ours t s now T m);
-      shorts = λ t n k z cs f.
-          let C = claims .engines .three-short t n k z cs f in
-          let (W, r, h) = C .runs in
-          ((W, r, h .applied, h .answers), C .live);
       buffers = of-buffer;
       tables = λ t b h S. let p = claims .demands .two t b h S in (p .0 .0, of-table t (p .0 .0) (p .1 (p .0 .0) (p .0 .1)));
       histories = λ t n k z cs f. of-history _ _ (claims .demands .three t n k z cs f);
+      winners = λ t n k z cs f l c s o x p q y.
+          let d = claims .stores .drained t n k z cs f 65535 (omega arith) l c in
+          (d .0 s o p q, d .1 s o x p q y);
+      settled = claims .stores .one-winner;
+      vectors = λ R o x v c q r K. let C = claims .histories .every-run (omega arith) R in subst (Rank _) (sym (C .ranked .only r K o x v c q)) (C .vectors o x v c q);
       none =
           let A = claims .histories .anomalies in
           (A .invented, A .repeated, A .own-put, A .got, A .deeper, A .alone, A .overlooked, A .unseen, A .too-early, A .foretold);
       none-looked = let A = claims .histories .anomalies in (A .looked-early, A .looked-blind, A .adopted, A .not-held);
-      looked = λ k. no-cause (claims .histories .anomalies .looked 2) k;
+      looked = let (r, K, O) = claims .histories .anomalies .looked 2 in (r, K, no-cause r O);
+      none-ranked = λ r. let A = claims .histories .anomalies in (A .disagreed r, A .newest r, A .overwritten r);
+      winner = claims .histories .anomalies .agreed;
       itself = claims .histories .anomalies .from-itself _ 0 1 5 7 (inl refl);
     }

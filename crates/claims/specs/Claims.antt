@@ -2,7 +2,7 @@
 -- every one (crates/claims/proofs/Proved), so that a theorem that goes missing is an error. Assumes nothing.
 use mathlib.Core.Path.{_≡_}
 use mathlib.Core.List.{List, [], _∷_, map}
-use Prim.Native.Nat.{ℕ, min}
+use Prim.Native.Nat.{ℕ, min, _≤_}
 use lib.ListN.{length}
 use Rattle.clock.specs.Vector.{Vector}
 use Rattle.layout.specs.State.{table, stateOf, the-widths, the-offsets}
@@ -12,6 +12,7 @@ use Rattle.rules.specs.Calls.{Open, Put, Get, Deliver, Drain, Touch, Look, Adop
 use Rattle.rules.specs.Cases.{Case, cases, Computed}
 use Rattle.rules.specs.TouchCases.{parts, forms, kinds, touches, listed-so, words-first}
 use Rattle.rules.specs.LookCases.{looks}
+use Rattle.rules.specs.RankCases.{ranks}
 use Rattle.rules.specs.ShortCases.{long-chain, short-chain, shorts}
 use Rattle.rules.specs.Bounds.{bounds}
 use Rattle.rules.specs.SoundCases.{Fact, tables, answered, expected}
@@ -19,13 +20,14 @@ use Rattle.laws.specs.Theorems.{SoundTested, AcceptedSound, KeepsSound, Refused
 use Rattle.laws.specs.Touches.{TouchBack, FormedExactly, AgeAdds, AgedExactly, KindExactly, KindsListed, ListFilled, ColdAnswers, TouchedSays, TouchIsBoth, ScanKeepsColdness}
 use Rattle.laws.specs.Looks.{LookKeeps, GetIsBoth, AdoptIsGet, AdoptAnswers, AdoptNever, ColdKeeps}
 use Rattle.laws.specs.Agreement.{EngineFree}
-use Rattle.causal.specs.World.{Set, World, Run}
+use Rattle.causal.specs.World.{Set, Tops, World, Run}
 use Rattle.causal.specs.History.{History, AppliedExactly, CausalRun}
-use Rattle.causal.specs.Anomalies.{looked-at, Anomalies}
-use Rattle.causal.specs.Refines.{Tops, SameAnswers, Abstracts, PutsCounted, Causal}
-use Rattle.demands.specs.Demands.{Demand1, Demand2, Demand3, Demand3Short, NothingDelivered, play}
+use Rattle.causal.specs.Anomalies.{looked-at, one-winner, Anomalies}
+use Rattle.causal.specs.Refines.{SameAnswers, PutsCounted, Causal}
+use Rattle.demands.specs.Demands.{Demand1, Demand2, Demand3, NothingDelivered, play}
+use Rattle.demands.specs.Stores.{OneWinner, DrainedEqual}
 use Rattle.demands.specs.Agreement.{Agreement}
-use Rattle.demands.specs.Schedule.{schedule, by-hand, looking, adopting, adopted}
+use Rattle.demands.specs.Schedule.{schedule, by-hand, looking, adopting, adopted, winning}
 use Rattle.table.specs.declared.Engine.{Engine}
 use Rattle.table.specs.NoSecond as table
 use Rattle.table.specs.Worked as worked
@@ -53,33 +55,40 @@ pub record Demands : Type 1 where
   -- every site has its order, and nothing accepted is held back for good, from every opening
   pub three : Demand3
 
+-- "Two sites, two winners", and now one
+pub record OfStores : Type 0 where
+  -- where every site has applied every put all stores are equal, and a drain of each site gets there
+  pub one-winner : OneWinner
+  pub drained : DrainedEqual
+
 -- "The engine with short lists"
-pub record OfEngines : Type 1 where
-  -- the two agree, but for the numbers beside a 10, and make one history
+pub record OfEngines : Type 0 where
+  -- it agrees with the steps before the ranks, but for the numbers beside a 10, and makes one history with them
   pub agreement : Agreement
-  -- demands 1 and 3 for short lists
+  -- demand 1 for short lists
   pub one-short : Demand1 short
-  pub three-short : Demand3Short
   -- open, look and the cold list do not depend on the engine
   pub engine-free : EngineFree
 
 -- what demand 3 rests on and shuts out
 pub record OfHistories : Type 1 where
-  -- every run of figure 7 has it
-  pub every-run : {n k : ℕ} {h : History} {W : World} → Run n k h W → CausalRun n h W
+  -- every run of figure 7 has it, its ranks among them
+  pub every-run : {n k : ℕ} {h : History} {W : World} → n ≤ 8 → Run n k h W → CausalRun n h W
   -- the greatest clock for each site and the set of pairs give the same answers
   pub same-answers : (v : Vector) (d : Set) → Tops v d → SameAnswers v d
   -- an order has exactly the puts applied at its site, and a history only puts that the table counts
   pub applied-exactly : AppliedExactly
   pub puts-counted : PutsCounted
-  -- histories that no store may make have no order; what was looked at is not waited for, what was adopted is
+  -- histories that no store may make have no order; what was looked at is not waited for, what was adopted or overwritten is
   pub anomalies : Anomalies
   -- document 01's schedule, on any buffer, has the history that a reader would write, and is causal
   pub schedule : (t : List ℕ) → length t ≡ table .width → let p = play ours (serve ours t (Open 3 4) .bytes) [] schedule in
-      (p .1 ≡ by-hand) × Causal ours (stateOf (p .0)) (Abstracts (stateOf (p .0))) (λ c. serve ours (p .0) c .answer) by-hand
+      (p .1 ≡ by-hand) × Causal (stateOf (p .0)) (λ c. serve ours (p .0) c .answer) by-hand
   -- so for a put after a look, which is handed on at once, and a put after an adopt, which is not
   pub looking : (t : List ℕ) → length t ≡ table .width → play ours (serve ours t (Open 3 4) .bytes) [] looking .1 ≡ looked-at
   pub adopting : (t : List ℕ) → length t ≡ table .width → play ours (serve ours t (Open 3 4) .bytes) [] adopting .1 ≡ adopted
+  -- and for case 13, where both sites get the one winner
+  pub winning : (t : List ℕ) → length t ≡ table .width → play ours (serve ours t (Open 3 4) .bytes) [] winning .1 ≡ one-winner
 
 -- no second outcome: of each public call's promise
 pub record NoSecondOutcome : Type 0 where
@@ -88,8 +97,8 @@ pub record NoSecondOutcome : Type 0 where
   pub gets : (e : Engine) (s x : ℕ) → table.NoSecondBy e (Get s x) × table.OneBy e (Get s x)
   pub looks : (s x : ℕ) → table.NoSecond (Look s x) × table.One (Look s x)
   pub adopts : (e : Engine) (s x o c : ℕ) → table.NoSecondBy e (Adopt s x o c) × table.OneBy e (Adopt s x o c)
-  pub delivers : (s o : ℕ) → table.NoSecond (Deliver s o) × table.One (Deliver s o)
-  pub drains : (s b : ℕ) → table.NoSecond (Drain s b) × table.One (Drain s b)
+  pub delivers : (e : Engine) (s o : ℕ) → table.NoSecondBy e (Deliver s o) × table.OneBy e (Deliver s o)
+  pub drains : (e : Engine) (s b : ℕ) → table.NoSecondBy e (Drain s b) × table.OneBy e (Drain s b)
   pub fc-open : (n k : ℕ) → host.NoSecond (Open n k) × host.One (Open n k)
   pub fc-put : (s x v : ℕ) → host.NoSecond (Put s x v) × host.One (Put s x v)
   pub fc-get : (s x : ℕ) → host.NoSecond (Get s x) × host.One (Get s x)
@@ -120,18 +129,20 @@ Says {A} a = A
 -- worked cases, computed from the rules
 pub record OfCases : Type 0 where
   -- document 01's starred cases and its schedule; each number and step at its bounds
-  pub starred : Computed ours cases
+  pub starred : Computed ours (cases (6 ∷ 6 ∷ []))
   pub at-bounds : Computed ours bounds
   -- all of them: case 15 has two tables, 0 is the schedule
-  pub which : map (λ (c : Case). c .number) cases ≡ 1 ∷ 3 ∷ 4 ∷ 5 ∷ 6 ∷ 7 ∷ 9 ∷ 10 ∷ 11 ∷ 12 ∷ 13 ∷ 15 ∷ 15 ∷ 0 ∷ []
+  pub which : map (λ (c : Case). c .number) (cases []) ≡ 1 ∷ 3 ∷ 4 ∷ 5 ∷ 6 ∷ 7 ∷ 9 ∷ 10 ∷ 11 ∷ 12 ∷ 13 ∷ 15 ∷ 15 ∷ 0 ∷ []
   pub how-many : length bounds ≡ 26
   -- touch and the cold list; records, kinds and the list at their edges
   pub touches : Computed ours touches × (length touches ≡ 10)
   pub records : Says parts × Says forms × Says kinds × Says listed-so × Says words-first
   -- look and adopt
   pub looks : Computed ours looks × (length looks ≡ 8)
-  -- short lists answer document 01's cases too; a chain of three sites in both, and what a short put leaves and a short get adds
-  pub starred-short : Computed short cases
+  -- ranks: what a put learns, and which deliveries replace
+  pub ranks : Computed ours ranks × (length ranks ≡ 6)
+  -- short lists answer document 01's cases too, and in case 13 two sites disagree for good; a chain of three sites in both, and what a short put leaves and a short get adds
+  pub starred-short : Computed short (cases (6 ∷ 5 ∷ []))
   pub chains : Says long-chain × Says short-chain
   pub shorts : Computed short shorts × (length shorts ≡ 5)
   -- for each fact of soundness a table that breaks it, and a neighbour that is sound
@@ -238,6 +249,7 @@ pub record OfListings : Type 0 where
 
 pub record Claims : Type 1 where
   pub demands : Demands
+  pub stores : OfStores
   pub engines : OfEngines
   pub histories : OfHistories
   pub outcomes : NoSecondOutcome

@@ -1,25 +1,26 @@
 -- The demands at their edges: each field uses a field of a demand, an order or an anomaly, so that one that is lost or says less is an error. Assumes nothing.
 use mathlib.Core.Path.{_≡_}
-use mathlib.Core.Bool.{true, false}
-use mathlib.Core.List.{List, [], _∷_}
-use mathlib.Core.Logic.{_≢_, _↔_}
+use mathlib.Core.Bool.{Bool, true, false}
+use mathlib.Core.List.{List, [], _∷_, map}
+use mathlib.Core.Logic.{_⊎_, _≢_, _↔_}
 use Prim.Native.Nat.{ℕ, suc, _+_, _^_, _≤_, _<_}
 use lib.ListN.{length}
 use Rattle.clock.specs.Map.{bit}
 use Rattle.clock.specs.Lists.{_∈_}
+use Rattle.clock.specs.Vector.{rank}
 use Rattle.layout.specs.State.{table, stateOf, lastClock}
 use Rattle.layout.specs.Ranges.{Bytes}
 use Rattle.rules.specs.Engine.{long, short, ours}
-use Rattle.rules.specs.Sound.{Sound}
+use Rattle.rules.specs.Sound.{place, Retained, Sound}
 use Rattle.rules.specs.Steps.{Numbers, refused, done, seen}
 use Rattle.rules.specs.Calls.{Call, Open, Put, Get, Look, Adopt, Deliver, Drain, Cold, asks, serve, serve-list}
 use Rattle.rules.specs.Refusals.{first}
 use Rattle.laws.specs.Theorems.{Clear, needed}
-use Rattle.causal.specs.World.{Answer, never, wrote, World, due, waiting, withPut, withGet, withUpdate, Behind, CausesApplied, put, get, look, adopt, update, Run}
-use Rattle.causal.specs.History.{History, Cause, Ordered, Lacks}
-use Rattle.causal.specs.Refines.{Abstracts, numbers, found, after-call}
-use Rattle.causal.specs.Anomalies.{NoOrder, forged, twice, second-first, effect-alone, effect-first, far-effect-first, forgotten, blind, early, prophecy, early-look, blind-look, adopted-alone, adopted-unseen, looked-at}
-use Rattle.demands.specs.Demands.{play}
+use Rattle.causal.specs.World.{Rank, Answer, never, wrote, World, nth, due, waiting, withPut, withGet, withUpdate, Replaces, Behind, CausesApplied, put, get, look, adopt, update, Run}
+use Rattle.causal.specs.History.{History, Ranks, Cause, Ranking, Ordered, Lacks}
+use Rattle.causal.specs.Refines.{Abstracts, numbers, after-call}
+use Rattle.causal.specs.Anomalies.{NoOrder, forged, twice, second-first, effect-alone, effect-first, far-effect-first, forgotten, blind, early, prophecy, early-look, blind-look, adopted-alone, adopted-unseen, looked-at, two-winners, one-winner, newest-wins, overwriting-first}
+use Rattle.demands.specs.Demands.{play, FourBytes}
 
 -- demand 1: any buffer
 pub record OfBuffer (t : List ℕ) : Type 0 where
@@ -67,7 +68,8 @@ pub record OfTable (t : List ℕ) (W : World) : Type 1 where
       (r .answer .code ≢ 0) × (stateOf (r .bytes) ≡ stateOf t)
   pub delivers : (s o : ℕ) → s < stateOf t .n → o < stateOf t .n → s ≢ o → Behind W s o → CausesApplied W s o → let r = serve ours t (Deliver s o) in
       (r .answer ≡ numbers (update s o (due W s o) (waiting W s o .key) (waiting W s o .value)))
-      × Abstracts (stateOf (r .bytes)) (withUpdate W s o) × Sound (stateOf (r .bytes))
+      × ((b : Bool) × Abstracts (stateOf (r .bytes)) (withUpdate W s o b)
+      × (let u = waiting W s o in let e = W .store s (u .key) in (b ≡ true) ↔ Replaces o (u .depends) (e .answer) (e .depends))) × Sound (stateOf (r .bytes))
   -- a put past the last clock is refused, and a refusal leaves the table
   pub last : (s x v : ℕ) → v < 256 ^ 4 → stateOf t .applied s s ≡ lastClock → let r = serve ours t (Put s x v) in (r .answer .code ≢ 0) × (stateOf (r .bytes) ≡ stateOf t)
   -- 9: nothing is under way; 10: a cause is missing, of the lowest site and there the greatest
@@ -88,19 +90,25 @@ pub record OfHistory (t : List ℕ) (h : History) : Type 1 where
   pub own-put : (g : History) (s x v c : ℕ) (a : Answer) → h ≡ get s x a ∷ put s x v c ∷ g → a ≡ wrote v s c
   -- and so does its look
   pub own-look : (g : History) (s x v c : ℕ) (a : Answer) → h ≡ look s x a ∷ put s x v c ∷ g → a ≡ wrote v s c
-  -- and after it was handed a put answers that
-  pub handed-put : (g : History) (s o x v c : ℕ) (a : Answer) → s < stateOf t .n → h ≡ get s x a ∷ update s o c x v ∷ g → a ≡ wrote v o c
-  pub handed-look : (g : History) (s o x v c : ℕ) (a : Answer) → s < stateOf t .n → h ≡ look s x a ∷ update s o c x v ∷ g → a ≡ wrote v o c
+  -- and after it was handed a put answers that, or one of a higher rank, or of the same rank and a higher origin
+  pub handed-put : (g : History) (s o x v c : ℕ) (a : Answer) → s < stateOf t .n → h ≡ get s x a ∷ update s o c x v ∷ g → (r : Ranks) → Ranking r h
+      → (v′ o′ c′ : ℕ) × (a ≡ wrote v′ o′ c′) × ((r o c < r o′ c′) ⊎ ((r o c ≡ r o′ c′) × (o ≤ o′)))
+  pub handed-look : (g : History) (s o x v c : ℕ) (a : Answer) → s < stateOf t .n → h ≡ look s x a ∷ update s o c x v ∷ g → (r : Ranks) → Ranking r h
+      → (v′ o′ c′ : ℕ) × (a ≡ wrote v′ o′ c′) × ((r o c < r o′ c′) ⊎ ((r o c ≡ r o′ c′) × (o ≤ o′)))
+  -- the rank of a put, as its causes have it, is the sum of its vector's columns: where it stands as an entry, and where some site lacks it
+  pub entry-rank : (s x v : ℕ) → s < stateOf t .n → x < stateOf t .k → let e = stateOf t .store s x in
+      e .clock ≢ 0 → put (e .origin) x v (e .clock) ∈ h → (r : Ranks) → Ranking r h → r (e .origin) (e .clock) ≡ rank (e .depends)
+  pub update-rank : (o x v c : ℕ) → put o x v c ∈ h → Retained (stateOf t) o c → (r : Ranks) → Ranking r h → r o c ≡ rank (stateOf t .updates o (place c) .depends)
   -- what a site was handed was put before, is not handed again, and its causes stand before it
   pub made : (g : History) (s o c x v : ℕ) → s < stateOf t .n → h ≡ update s o c x v ∷ g → put o x v c ∈ g
   pub once : (g : History) (s o c x v x′ v′ : ℕ) → s < stateOf t .n → h ≡ update s o c x v ∷ g → update s o c x′ v′ ∈ g → ⊥
-  pub caused : (g : History) (s o c x v o′ c′ : ℕ) → s < stateOf t .n → s ≢ o′ → h ≡ update s o c x v ∷ g → Cause h o′ c′ o c
-      → (x′ : ℕ) × (v′ : ℕ) × update s o′ c′ x′ v′ ∈ g
+  pub caused : (g : History) (s o c x v o′ c′ : ℕ) → s < stateOf t .n → s ≢ o′ → h ≡ update s o c x v ∷ g
+      → (r : Ranks) × Ranking r h × (Cause r h o′ c′ o c → (x′ : ℕ) × (v′ : ℕ) × update s o′ c′ x′ v′ ∈ g)
   -- what its maker adopted before it, from then on, is among them
   pub adopted : (g : History) (s o c x v y w o′ c′ : ℕ) → s < stateOf t .n → s ≢ o′ → h ≡ update s o c x v ∷ put o x v c ∷ g → adopt o y (wrote w o′ c′) ∈ g
       → (x′ : ℕ) × (v′ : ℕ) × update s o′ c′ x′ v′ ∈ g
-  -- what it adopts right after it was handed a put is that put
-  pub adopts-handed : (g : History) (s o x v c : ℕ) (a : Answer) → h ≡ adopt s x a ∷ update s o c x v ∷ g → a ≡ wrote v o c
+  -- what it adopts right after its own put is that put
+  pub adopts-own : (g : History) (s x v c : ℕ) (a : Answer) → h ≡ adopt s x a ∷ put s x v c ∷ g → a ≡ wrote v s c
   -- the table counts each put
   pub counted : (o x v c : ℕ) → put o x v c ∈ h → c ≤ stateOf t .applied o o
   -- after one put, a delivery to each other site is accepted, and after a drain there that answers 0 it has the put
@@ -132,33 +140,43 @@ pub record Uses : Type 1 where
   pub buffers : (t : List ℕ) → Bytes t → OfBuffer t
   -- every sound table has a world
   pub tables : (t : List ℕ) → Bytes t → length t ≡ table .width → Sound (stateOf t) → (W : World) × OfTable t W
-  -- every list of calls after an opening, on both engines
-  pub engines : (t : List ℕ) (n k : ℕ) → serve ours t (Open n k) .answer .code ≡ 0 →
-      (cs : List Call) → ((s x v : ℕ) → Put s x v ∈ cs → v < 256 ^ 4) →
-      let u = serve ours t (Open n k) .bytes in let l = play long u [] cs in let w = play short u [] cs in
-      OfBoth (l .0) (w .0) × ((s : ℕ) → s < stateOf (w .0) .n → Ordered (w .1) s)
+  -- every list of calls after an opening, on long and short lists
+  pub engines : (t : List ℕ) (n k : ℕ) → serve long t (Open n k) .answer .code ≡ 0 →
+      (cs : List Call) → FourBytes cs →
+      let u = serve long t (Open n k) .bytes in let l = play long u [] cs in let w = play short u [] cs in
+      OfBoth (l .0) (w .0) × (w .1 ≡ l .1)
   -- open, look and the cold list with either
   pub either : (t : List ℕ) (n k s x now T room : ℕ) →
       (serve short t (Open n k) ≡ serve ours t (Open n k)) × (serve short t (Look s x) ≡ serve ours t (Look s x))
       × (serve short t (Cold s now T room) ≡ serve ours t (Cold s now T room))
-  -- every list of calls with short lists alone: some run of figure 7 has their counts and entries, and while a put lacks some delivery is accepted
-  pub shorts : (t : List ℕ) (n k : ℕ) → serve short t (Open n k) .answer .code ≡ 0 →
-      (cs : List Call) → ((s x v : ℕ) → Put s x v ∈ cs → v < 256 ^ 4) →
-      let p = play short (serve short t (Open n k) .bytes) [] cs in
-      let S = stateOf (p .0) in
-      ((W : World) × Run (S .n) (S .k) (p .1) W × ((s o : ℕ) → s < S .n → o < 8 → W .applied s o ≡ S .applied s o)
-      × ((s x : ℕ) → s < S .n → x < S .k → W .store s x .answer ≡ found S s x))
-      × ((s o x v c : ℕ) → s < S .n → put o x v c ∈ p .1 → Lacks (p .1) s o c → (o′ : ℕ) × (serve short (p .0) (Deliver s o′) .answer .code ≡ 0))
   -- every list of calls after an opening
   pub histories : (t : List ℕ) (n k : ℕ) → serve ours t (Open n k) .answer .code ≡ 0 →
-      (cs : List Call) → ((s x v : ℕ) → Put s x v ∈ cs → v < 256 ^ 4) →
+      (cs : List Call) → FourBytes cs →
       let p = play ours (serve ours t (Open n k) .bytes) [] cs in
       OfHistory (p .0) (p .1)
+  -- and after a drain of each site, in any order: every two sites have applied the same puts and hold the same entries
+  pub winners : (t : List ℕ) (n k : ℕ) → serve ours t (Open n k) .answer .code ≡ 0 →
+      (cs : List Call) → FourBytes cs →
+      let p = play ours (serve ours t (Open n k) .bytes) [] cs in
+      (sites : List ℕ) → ((s : ℕ) → s < stateOf (p .0) .n → s ∈ sites) → let S = stateOf (play ours (p .0) (p .1) (map (λ s. Drain s 65535) sites) .0) in
+      (s o x : ℕ) → s < S .n → o < S .n → x < S .k → (S .applied s o ≡ S .applied o o) × (S .store s x ≡ S .store o x)
+  -- so where the counts alone say that nothing is under way
+  pub settled : (t : List ℕ) (n k : ℕ) → serve ours t (Open n k) .answer .code ≡ 0 →
+      (cs : List Call) → FourBytes cs →
+      let S = stateOf (play ours (serve ours t (Open n k) .bytes) [] cs .0) in
+      ((s o : ℕ) → s < S .n → o < S .n → S .applied s o ≡ S .applied o o) → (s o x : ℕ) → s < S .n → o < S .n → x < S .k → S .store s x ≡ S .store o x
+  -- in every run of eight sites a put's rank is the sum of its vector's columns
+  pub vectors : {k : ℕ} {h : History} {W : World} → Run 8 k h W → (o x v c : ℕ) → put o x v c ∈ h → (r : Ranks) → Ranking r h
+      → Rank (nth (W .updates o) c .depends) (r o c)
   -- no order for a put invented or repeated; before an own put, a put got, a cause of a cause; without its cause; overlooked; early
   pub none : NoOrder forged 1 × NoOrder twice 1 × NoOrder second-first 1 × NoOrder effect-first 2 × NoOrder far-effect-first 3 × NoOrder effect-alone 2
       × NoOrder forgotten 0 × NoOrder blind 1 × NoOrder early 1 × NoOrder prophecy 1
   -- for a look too early or blind, and without a put adopted; a put looked at is no cause
   pub none-looked : NoOrder early-look 1 × NoOrder blind-look 1 × NoOrder adopted-alone 2 × NoOrder adopted-unseen 1
-  pub looked : Cause looked-at 0 1 1 1 → ⊥
+  pub looked : (r : Ranks) × Ranking r looked-at × (Cause r looked-at 0 1 1 1 → ⊥)
+  -- for a lower origin of equal ranks, for the newest where another ranks higher, and for a put before the one that it overwrote; the higher origin has one
+  pub none-ranked : (r : Ranks) → (Ranking r two-winners → Ordered r two-winners 1 → ⊥) × (Ranking r newest-wins → Ordered r newest-wins 0 → ⊥)
+      × (Ranking r overwriting-first → Ordered r overwriting-first 2 → ⊥)
+  pub winner : (s : ℕ) → (r : Ranks) × Ranking r one-winner × Ordered r one-winner s
   -- nor for one from its own site
   pub itself : NoOrder (update 0 0 1 5 7 ∷ put 0 5 7 1 ∷ []) 0

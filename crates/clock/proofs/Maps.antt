@@ -1,5 +1,5 @@
 -- Laws of choosing by a test and of maps with one place changed. Assumes nothing.
-use mathlib.Core.Path.{_≡_, refl, sym, ap, subst}
+use mathlib.Core.Path.{_≡_, refl, sym, ap, subst, fun-ext}
 use mathlib.Core.Bool.{Bool, true, false}
 use mathlib.Core.Logic.{_⊎_, inl, inr, ⊎-elim, _≢_}
 use Prim.Native.Nat.{ℕ, _≤_, _<_}
@@ -34,12 +34,24 @@ module _ {ℓ} {A : Type ℓ} (f : ℕ → A) (i : ℕ) (a : A) where
   pub at-other : (j : ℕ) → i ≢ j → (f ⟨ i ≔ a ⟩) j ≡ f j
   at-other j h = rw (ne-eqb i j h)
 
+  -- one value over another
+  pub at-twice : (b : A) → f ⟨ i ≔ a ⟩ ⟨ i ≔ b ⟩ ≡ f ⟨ i ≔ b ⟩
+  at-twice b = fun-ext λ j. go j (eqb i j)
+    where
+      go : (j : ℕ) (t : Bool) → (if t then b else if t then a else f j) ≡ (if t then b else f j)
+      go j true = refl
+      go j false = refl
+
   pub at-is : (j : ℕ) → ((i ≡ j) × ((f ⟨ i ≔ a ⟩) j ≡ a)) ⊎ ((i ≢ j) × ((f ⟨ i ≔ a ⟩) j ≡ f j))
   at-is j =
       ⊎-elim
       (λ (e : i ≡ j). inl (e, rw (eq-eqb i j e)))
       (λ (e : i ≢ j). inr (e, at-other j e))
       (eq? i j)
+
+-- what stands there already
+pub at-itself {ℓ} : {A : Type ℓ} (f : ℕ → A) (i : ℕ) → f ⟨ i ≔ f i ⟩ ≡ f
+at-itself f i = fun-ext λ j. choice (eqb i j) (λ a. a ≡ f j) (λ e. ap f (eqb-true i j e)) (λ e. refl)
 
 pub at-is₂ {ℓ} : {A : Type ℓ} (f : ℕ → ℕ → A) (i j : ℕ) (a : A) (i′ j′ : ℕ)
     → ((i ≡ i′) × (j ≡ j′) × ((f ⟨ i ⟩⟨ j ≔ a ⟩) i′ j′ ≡ a)) ⊎ ((i ≡ i′ → j ≡ j′ → ⊥) × ((f ⟨ i ⟩⟨ j ≔ a ⟩) i′ j′ ≡ f i′ j′))

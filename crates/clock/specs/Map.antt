@@ -1,4 +1,4 @@
--- Choosing by a test, maps with one place changed, tests of every number below a bound, and masks of those that pass. Assumes nothing.
+-- Choosing by a test, maps with one place changed, tests of every number below a bound, masks of those that pass, and sums. Assumes nothing.
 use mathlib.Core.Bool.{Bool, true, false, _&&_, _||_}
 use Prim.Native.Nat.{ℕ, zero, suc, _+_, _/_, _%_, _^_}
 use lib.Dec.{eqb, ltb}
@@ -45,3 +45,8 @@ mask (suc m) p = mask m p + (if p m then 2 ^ m else 0)
 unfoldable pub bit : ℕ → ℕ → Bool
 bit b zero = eqb (b % 2) 1
 bit b (suc j) = bit (b / 2) j
+
+-- the sum of f at the numbers below m
+unfoldable pub sum : ℕ → (ℕ → ℕ) → ℕ
+sum zero f = 0
+sum (suc m) f = sum m f + f m

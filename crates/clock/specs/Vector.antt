@@ -2,7 +2,7 @@
 use mathlib.Core.Bool.{Bool}
 use Prim.Native.Nat.{ℕ, max}
 use lib.Dec.{ltb}
-use Rattle.clock.specs.Map.{_⟨_≔_⟩}
+use Rattle.clock.specs.Map.{_⟨_≔_⟩, sum}
 
 abbrev pub Vector : Type 0
 Vector = ℕ → ℕ
@@ -21,3 +21,7 @@ note v o c = v ⟨ o ≔ max (v o) c ⟩
 -- column j of v is greater than the same column of w
 abbrev pub beyond : Vector → Vector → ℕ → Bool
 beyond v w j = ltb (w j) (v j)
+
+-- "A put's rank is the sum of the columns of that vector"
+abbrev pub rank : Vector → ℕ
+rank = sum 8

@@ -1,7 +1,7 @@
 // A clock vector by value: for each of eight sites the greatest clock number seen.
 ghost use mathlib.Core.Path.{_≡_};
 ghost use Prim.Native.Nat.{_<_, max};
-ghost use Rattle.clock.specs.Vector.{zeros, join, note};
+ghost use Rattle.clock.specs.Vector.{zeros, join, note, rank};
 ghost use Rattle.clock.specs.Clock.{columns, compare};
 
 pub struct Clock {
@@ -23,6 +23,12 @@ pub fn greater(a: u16, b: u16) -> u16
     ensures { λ r. ⌜ r ≡ max a b ⌝ }
 {
     if a < b { b } else { a }
+}
+
+fn wide(x: u16) -> u32
+    ensures { λ r. ⌜ (r ≡ x) × (r < 65536) ⌝ }
+{
+    x as u32
 }
 
 impl Clock {
@@ -55,6 +61,20 @@ impl Clock {
         let mut a = self.col;
         a[site] = greater(a[site], clock);
         Clock { col: a }
+    }
+
+    // The sum of the columns.
+    pub fn rank(self) -> u32
+        ensures { λ r. ⌜ r ≡ rank (columns self) ⌝ }
+    {
+        let a = self.col;
+        let mut sum: u32 = 0;
+        let mut at = 0;
+        while at < Clock::COLUMNS {
+            sum += wide(a[at]);
+            at += 1;
+        }
+        sum
     }
 
     // Down the columns, so that the last one found is the lowest; the mask doubles at each.

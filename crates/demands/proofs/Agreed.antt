@@ -1,30 +1,28 @@
--- Played on both engines, calls make one history, and tables that agree; so demand 3 holds for short lists. Assumes nothing.
+-- Played on both engines, calls make one history, and tables that agree. Assumes nothing.
 use mathlib.Core.Path.{_≡_, refl, sym, ap, subst, _∙_}
 use mathlib.Core.List.{List, [], _∷_}
 use mathlib.Core.Logic.{⊎-elim}
-use Prim.Native.Nat.{ℕ, zero, suc, _^_, _<_}
+use Prim.Native.Nat.{ℕ, zero, suc}
 use lib.Dec.{eqb}
 use Rattle.clock.specs.Map.{if_then_else_}
 use Rattle.clock.proofs.Maps.{eq?}
-use Rattle.clock.specs.Lists.{_∈_}
 use Rattle.layout.specs.State.{State, stateOf, bytesOf}
 use Rattle.layout.specs.Ranges.{Fits}
 use Rattle.layout.proofs.TableTrips.{state-back}
 use Rattle.rules.specs.Engine.{Engine, long, short}
 use Rattle.rules.specs.Steps.{Numbers, opened}
-use Rattle.rules.specs.Calls.{Call, Open, Put, Get, Deliver, Drain, Cold, Touch, Look, Adopt, run, Served, serve}
+use Rattle.rules.specs.Calls.{Call, Open, Put, Get, Deliver, Drain, Cold, Touch, Look, Adopt, run, serve}
 use Rattle.laws.specs.Agreement.{SameTable, SameAnswer}
 use Rattle.laws.proofs.Agreed.{Agree, run-agree, same-table, same-made, opened-agree}
 use Rattle.laws.proofs.Ready.{OpenReady}
 use Rattle.laws.proofs.Fitting.{FitsEngine, long-fits, short-fits, open-fits}
-use Rattle.causal.specs.World.{World}
-use Rattle.causal.specs.History.{History, Lacks}
-use Rattle.causal.specs.Refines.{Abstracts, Shows, found, looked, after-call, Causal}
-use Rattle.causal.proofs.Tracing.{played, played-causal}
-use Rattle.demands.specs.Demands.{play, Demand3Short}
+use Rattle.causal.specs.History.{History}
+use Rattle.causal.specs.Refines.{found, looked, after-call}
+use Rattle.causal.proofs.Tracing.{played}
+use Rattle.demands.specs.Demands.{play, FourBytes}
 use Rattle.demands.specs.Agreement.{Agreement}
 use Rattle.demands.proofs.Serving.{serve-state, play-is}
-use Rattle.demands.proofs.Proved.{opens, on-bytes}
+use Rattle.demands.proofs.Proved.{opens}
 
 -- ## One history
 
@@ -81,7 +79,7 @@ played-agree S T G h (c ∷ cs) =
 
 -- ## Over bytes
 
-module _ (n k : ℕ) (R : OpenReady n k) (cs : List Call) (z : (s x v : ℕ) → Put s x v ∈ cs → v < 256 ^ 4) where
+module _ (n k : ℕ) (R : OpenReady n k) (cs : List Call) (z : FourBytes cs) where
   abbrev S : State
   S = played long (opened n k) [] cs .0
 
@@ -105,34 +103,3 @@ agreement t n k z cs h =
     let o = opens long t n k z in
     rw (o .1, plays n k (o .0) cs h long long-fits .1, plays n k (o .0) cs h short short-fits .1)
     (same-tables n k (o .0) cs h, same-answers n k (o .0) cs h, agree n k (o .0) cs h .1)
-
--- ## Demand 3 for short lists
-
-causal-short : {S T : State} (G : Agree S T) (h : History) → Causal long S (Abstracts S) (λ c. run long S c .answer) h → Causal short T (Shows T) (λ c. run short T c .answer) h
-causal-short {S} {T} G h C =
-    let e = same-table G in
-    let code : (c : Call) → run short T c .answer .code ≡ run long S c .answer .code = λ c. run-agree S T G c .0 .code in
-    let (W, r, A) = C .runs in
-    record {
-      runs = (
-        W,
-        rw (e .sites, e .keys) r,
-        record {
-          applied = λ s o p q. A .applied s o (rw (e .sites) at p) q ∙ sym (e .applied s o);
-          answers = λ s x p q. A .answers s x (rw (e .sites) at p) (rw (e .keys) at q) ∙ sym (same-found G s x);
-        },
-      );
-      orders = λ s p. C .orders s (rw (e .sites) at p);
-      live = λ s o x v c p q l. let d = C .live s o x v c (rw (e .sites) at p) q l in (d .0, code (Deliver s (d .0)) ∙ d .1);
-      drains = λ s b o x v c z q l.
-          C .drains s b o x v c (sym (code (Drain s b)) ∙ z) q (subst (λ (g : History). Lacks g s o c) (same-history G (Drain s b) _ _ h (run-agree S T G (Drain s b) .0)) l);
-    }
-
-pub demand3-short : Demand3Short
-demand3-short t n k z cs h =
-    let o = opens short t n k z in
-    let R = o .0 in
-    let G = agree n k R cs h in
-    let p = plays n k R cs h short short-fits in
-    rw (o .1, p .1)
-    (on-bytes short Shows (T n k R cs h) (p .0) _ (subst (Causal short (T n k R cs h) (Shows (T n k R cs h)) _) (sym (G .1)) (causal-short (G .0) _ (played-causal n k R cs))))

@@ -3,3 +3,4 @@ pub mod Drained
 pub mod Proved
 pub mod Schedule
 pub mod Agreed
+pub mod Stores

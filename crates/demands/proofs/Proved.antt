@@ -113,11 +113,11 @@ opens E t n k z =
     (open-ready n k .0 (asks-clear t (Open n k) a .1), ap (λ (r : Served). r .bytes) (serve-step E t (Open n k) a))
 
 -- what holds of a state that fits holds of its bytes
-pub on-bytes : (E : Engine) (has : State → World → Type 0) (S : State) → Fits S → (h : History) → Causal E S (has S) (λ c. run E S c .answer) h
-    → Causal E (stateOf (bytesOf S)) (has (stateOf (bytesOf S))) (λ c. serve E (bytesOf S) c .answer) h
-on-bytes E has S F h C =
-    let e : _≡_ {A = Call → Numbers} (λ c. run E S c .answer) (λ c. serve E (bytesOf S) c .answer) = fun-ext λ c. sym (ap (λ (r : Served). r .answer) (serve-state E S F c)) in
-    subst (λ (R : State). Causal E R (has R) (λ c. serve E (bytesOf S) c .answer) h) (sym (state-back S F)) (subst (λ (a : Call → Numbers). Causal E S (has S) a h) e C)
+on-bytes : (S : State) → Fits S → (h : History) → Causal S (λ c. run ours S c .answer) h
+    → Causal (stateOf (bytesOf S)) (λ c. serve ours (bytesOf S) c .answer) h
+on-bytes S F h C =
+    let e : _≡_ {A = Call → Numbers} (λ c. run ours S c .answer) (λ c. serve ours (bytesOf S) c .answer) = fun-ext λ c. sym (ap (λ (r : Served). r .answer) (serve-state ours S F c)) in
+    subst (λ (R : State). Causal R (λ c. serve ours (bytesOf S) c .answer) h) (sym (state-back S F)) (subst (λ (a : Call → Numbers). Causal S a h) e C)
 
 pub demand3 : Demand3
 demand3 t n k z cs h =
@@ -125,4 +125,4 @@ demand3 t n k z cs h =
     let R = o .0 in
     let p = play-is ours ours-fits (opened n k) (open-fits n k R) [] cs (λ s x v m. omega (arith, h s x v m)) in
     let q = played ours (opened n k) [] cs in
-    rw (o .1, p .1) (on-bytes ours Abstracts (q .0) (p .0) (q .1) (played-causal n k R cs))
+    rw (o .1, p .1) (on-bytes (q .0) (p .0) (q .1) (played-causal n k R cs))

@@ -2,40 +2,39 @@
 use mathlib.Core.Path.{_≡_, refl, sym, ap, _∙_}
 use mathlib.Core.List.{List, [], _∷_}
 use mathlib.Core.Logic.{inl, inr}
-use Prim.Native.Nat.{ℕ, _^_, _<_}
+use Prim.Native.Nat.{ℕ}
 use native.Mathlib.Omega.{arith}
 use lib.ListN.{length}
-use Rattle.clock.specs.Lists.{_∈_}
 use Rattle.layout.specs.State.{table, stateOf}
 use Rattle.rules.specs.Engine.{ours}
 use Rattle.rules.specs.Steps.{opened}
-use Rattle.rules.specs.Calls.{Call, Open, Put, refusals, step, Served, serve}
+use Rattle.rules.specs.Calls.{Call, Open, refusals, step, Served, serve}
 use Rattle.rules.specs.Cases.{rules}
 use Rattle.laws.proofs.Ready.{open-ready}
 use Rattle.causal.specs.World.{wrote, get}
-use Rattle.causal.specs.History.{History, Cause, direct}
-use Rattle.causal.specs.Anomalies.{looked-at}
-use Rattle.causal.specs.Refines.{Abstracts, Causal}
+use Rattle.causal.specs.History.{History, Ranks, Cause, direct}
+use Rattle.causal.specs.Anomalies.{looked-at, one-winner}
+use Rattle.causal.specs.Refines.{Causal}
 use Rattle.causal.proofs.Tracing.{played}
-use Rattle.demands.specs.Demands.{play}
-use Rattle.demands.specs.Schedule.{schedule, by-hand, looking, adopting, adopted}
+use Rattle.demands.specs.Demands.{play, FourBytes}
+use Rattle.demands.specs.Schedule.{schedule, by-hand, looking, adopting, adopted, winning}
 use Rattle.laws.proofs.Fitting.{ours-fits, Sized, put-sized, get-sized, look-sized, adopt-sized, deliver-sized, open-fits}
 use Rattle.laws.proofs.Serving.{asks-long, serve-step}
 use Rattle.demands.proofs.Serving.{play-is}
 use Rattle.demands.proofs.Proved.{opens, demand3}
-use Rattle.causal.proofs.Sites.{clash}
+use Rattle.causal.proofs.Updates.{clash}
 
 -- 0's put is a cause of 1's, which answered it before
-caused : Cause by-hand 0 1 1 1
+caused : (r : Ranks) → Cause r by-hand 0 1 1 1
 unfolding by-hand
-caused = direct (get 1 1 (wrote 7 0 1)) 1 2 9 1 0 1 (inr (inr (inr (inl (refl, inl refl))))) (refl, (refl, refl))
+caused r = direct _ 1 2 9 1 0 1 (inr (inr (inr (inl (refl, refl))))) (inl (get 1 1 (wrote 7 0 1), inl refl, (refl, (refl, refl))))
 
 -- each of the calls has a value of four bytes, if any
 abbrev Each : List Call → Type 0
 Each [] = Unit {0}
 Each (c ∷ cs) = Sized c × Each cs
 
-each-put : (cs : List Call) → Each cs → (s x v : ℕ) → Put s x v ∈ cs → v < 256 ^ 4
+each-put : (cs : List Call) → Each cs → FourBytes cs
 each-put [] k s x v q = absurd q
 each-put (c ∷ cs) k s x v (inl e) = k .0 s x v (sym e)
 each-put (c ∷ cs) k s x v (inr q) = each-put cs (k .1) s x v q
@@ -67,5 +66,10 @@ module _ (t : List ℕ) (size : length t ≡ table .width) where
   unfolding rules adopting adopted
   history-adopting = on-bytes adopting (put-sized 0 1 7 (omega arith), (deliver-sized 1 0, (look-sized 1 1, (adopt-sized 1 1 0 1, (put-sized 1 2 9 (omega arith), (deliver-sized 2 1, tt))))))
 
-  pub causal : let p = play ours (serve ours t (Open 3 4) .bytes) [] schedule in Causal ours (stateOf (p .0)) (Abstracts (stateOf (p .0))) (λ c. serve ours (p .0) c .answer) by-hand
+  pub history-winning : play ours (serve ours t (Open 3 4) .bytes) [] winning .1 ≡ one-winner
+  unfolding rules winning
+  history-winning =
+      on-bytes winning (put-sized 0 0 5 (omega arith), (put-sized 1 0 6 (omega arith), (deliver-sized 0 1, (deliver-sized 1 0, (get-sized 1 0, (get-sized 0 0, tt))))))
+
+  pub causal : let p = play ours (serve ours t (Open 3 4) .bytes) [] schedule in Causal (stateOf (p .0)) (λ c. serve ours (p .0) c .answer) by-hand
   causal = rw history at (demand3 t 3 4 accepted schedule (each-put schedule sized))

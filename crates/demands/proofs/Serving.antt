@@ -2,17 +2,15 @@
 use mathlib.Core.Path.{_≡_, refl, sym, ap, _∙_}
 use mathlib.Core.List.{List, [], _∷_}
 use mathlib.Core.Logic.{inl, inr}
-use Prim.Native.Nat.{ℕ, _^_, _<_}
-use Rattle.clock.specs.Lists.{_∈_}
 use Rattle.layout.specs.State.{State, bytesOf}
 use Rattle.layout.specs.Ranges.{Fits}
 use Rattle.layout.proofs.TableTrips.{state-back, bytes-long}
 use Rattle.rules.specs.Engine.{Engine}
-use Rattle.rules.specs.Calls.{Call, Put, run, Served, serve}
+use Rattle.rules.specs.Calls.{Call, run, Served, serve}
 use Rattle.causal.specs.History.{History}
 use Rattle.causal.specs.Refines.{after-call}
 use Rattle.causal.proofs.Tracing.{played}
-use Rattle.demands.specs.Demands.{play}
+use Rattle.demands.specs.Demands.{play, FourBytes}
 use Rattle.layout.proofs.Whole.{state-bytes}
 use Rattle.laws.proofs.Serving.{served, serve-long}
 use Rattle.laws.proofs.Fitting.{FitsEngine, run-fits}
@@ -22,7 +20,7 @@ module _ (E : Engine) (S : State) (F : Fits S) where
   serve-state c = serve-long E (bytesOf S) c (bytes-long S F) (state-bytes S .1) ∙ ap (λ (R : State). served (run E R c)) (state-back S F)
 
 -- calls on bytes are calls on the state
-pub play-is : (E : Engine) → FitsEngine E → (S : State) → Fits S → (h : History) (cs : List Call) → ((s x v : ℕ) → Put s x v ∈ cs → v < 256 ^ 4)
+pub play-is : (E : Engine) → FitsEngine E → (S : State) → Fits S → (h : History) (cs : List Call) → FourBytes cs
     → let p = played E S h cs in Fits (p .0) × (play E (bytesOf S) h cs ≡ (bytesOf (p .0), p .1))
 play-is E L S F h [] z = (F, refl)
 play-is E L S F h (c ∷ cs) z =

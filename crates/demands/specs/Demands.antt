@@ -5,16 +5,16 @@ use mathlib.Core.Logic.{_↔_, _≢_}
 use Prim.Native.Nat.{ℕ, suc, _^_, _<_}
 use lib.ListN.{length}
 use Rattle.clock.specs.Lists.{_∈_}
-use Rattle.layout.specs.State.{State, table, stateOf}
+use Rattle.layout.specs.State.{table, stateOf}
 use Rattle.layout.specs.Ranges.{Bytes}
-use Rattle.rules.specs.Engine.{Engine, short, ours}
+use Rattle.rules.specs.Engine.{Engine, ours}
 use Rattle.rules.specs.Sound.{Sound}
 use Rattle.rules.specs.Steps.{refused}
 use Rattle.rules.specs.Calls.{Call, Open, Put, Deliver, Drain, asks, Served, serve}
 use Rattle.laws.specs.Theorems.{Given, Clear, Enough, Spent}
 use Rattle.causal.specs.World.{World}
 use Rattle.causal.specs.History.{History}
-use Rattle.causal.specs.Refines.{Abstracts, Shows, Follows, after-call, Causal}
+use Rattle.causal.specs.Refines.{Abstracts, Follows, after-call, Causal}
 
 -- deliveries to site s, one after another and each of them accepted, lead from the bytes t to others: so many
 pub data Delivered (E : Engine) (s : ℕ) (t : List ℕ) : ℕ → List ℕ → Type 0 where
@@ -58,18 +58,13 @@ abbrev pub play : Engine → List ℕ → History → List Call → List ℕ × 
 play E t h [] = (t, h)
 play E t h (c ∷ cs) = let r = serve E t c in play E (r .bytes) (after-call E (stateOf t) c (r .answer) h) cs
 
--- from a freshly opened table, after any calls with any numbers (a value is 4 bytes)
-abbrev pub CausalCalls : Engine → (State → World → Type 0) → Type 1
-CausalCalls E has =
-    (t : List ℕ) (n k : ℕ) → serve E t (Open n k) .answer .code ≡ 0 →
-    (cs : List Call) → ((s x v : ℕ) → Put s x v ∈ cs → v < 256 ^ 4) →
-    let p = play E (serve E t (Open n k) .bytes) [] cs in
-    Causal E (stateOf (p .0)) (has (stateOf (p .0))) (λ c. serve E (p .0) c .answer) (p .1)
+-- a value is 4 bytes
+abbrev pub FourBytes : List Call → Type 0
+FourBytes cs = (s x v : ℕ) → Put s x v ∈ cs → v < 256 ^ 4
 
--- the table has figure 7's world
+-- from a freshly opened table, after any calls with any numbers
 abbrev pub Demand3 : Type 1
-Demand3 = CausalCalls ours Abstracts
-
--- so for short lists, whose table shows the counts and entries of that world
-abbrev pub Demand3Short : Type 1
-Demand3Short = CausalCalls short Shows
+Demand3 =
+    (t : List ℕ) (n k : ℕ) → serve ours t (Open n k) .answer .code ≡ 0 → (cs : List Call) → FourBytes cs →
+    let p = play ours (serve ours t (Open n k) .bytes) [] cs in
+    Causal (stateOf (p .0)) (λ c. serve ours (p .0) c .answer) (p .1)

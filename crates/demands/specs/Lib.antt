@@ -1,3 +1,4 @@
 pub mod Demands
 pub mod Schedule
 pub mod Agreement
+pub mod Stores

@@ -1,4 +1,4 @@
--- Document 01's schedule and two more lists of calls, and the histories that a reader would write of them. Assumes nothing.
+-- Document 01's schedule and three more lists of calls, and the histories that a reader would write of them. Assumes nothing.
 use mathlib.Core.List.{List, [], _∷_}
 use Rattle.rules.specs.Calls.{Call, Put, Get, Look, Adopt, Deliver, Drain}
 use Rattle.causal.specs.World.{wrote, put, get, look, adopt, update}
@@ -23,3 +23,7 @@ adopting = Put 0 1 7 ∷ Deliver 1 0 ∷ Look 1 1 ∷ Adopt 1 1 0 1 ∷ Put 1 2 
 
 unfoldable pub adopted : History
 adopted = put 1 2 9 1 ∷ adopt 1 1 (wrote 7 0 1) ∷ look 1 1 (wrote 7 0 1) ∷ update 1 0 1 1 7 ∷ put 0 1 7 1 ∷ []
+
+-- case 13 of document 01, and a get at each site: `one-winner` (crates/causal/specs/Anomalies)
+unfoldable pub winning : List Call
+winning = Put 0 0 5 ∷ Put 1 0 6 ∷ Deliver 0 1 ∷ Deliver 1 0 ∷ Get 1 0 ∷ Get 0 0 ∷ []

@@ -9,7 +9,7 @@ use lib.Dec.{eqb}
 use lib.ListN.{length}
 use Rattle.clock.proofs.Maps.{choice}
 use Rattle.layout.specs.State.{State, stateOf}
-use Rattle.rules.specs.Engine.{ours}
+use Rattle.rules.specs.Engine.{Engine}
 use Rattle.rules.specs.Sound.{Sound}
 use Rattle.rules.specs.Steps.{Numbers, Outcome, deliver}
 use Rattle.rules.specs.Refusals.{first, deliver-refusals}
@@ -25,23 +25,23 @@ use Rattle.drain.specs.Turns.{turnOf, Drains}
 use Rattle.drain.proofs.Turning.{due-at, at-end}
 
 -- a refused try changes nothing
-try-keeps : (S : State) (s o : ℕ) → try ours S s o .answer .code ≢ 0 → try ours S s o .after ≡ S
+try-keeps : (E : Engine) (S : State) (s o : ℕ) → try E S s o .answer .code ≢ 0 → try E S s o .after ≡ S
 unfolding try deliver
-try-keeps S s o =
+try-keeps E S s o =
     choice (eqb (first (deliver-refusals S s o)) 0) (λ (w : Outcome). w .answer .code ≢ 0 → w .after ≡ S) (λ e h. absurd (h refl)) (λ e h. refl)
 
-pub record Draining (t₀ t : List ℕ) (n s budget o : ℕ) (d : Bool) (deliveries tries : ℕ) : Type 0 where
+pub record Draining (E : Engine) (t₀ t : List ℕ) (n s budget o : ℕ) (d : Bool) (deliveries tries : ℕ) : Type 0 where
   pub ready : Drains t n s
   pub fair : Fair n s (turnOf n o d)
   pub within : tries ≤ budget
   pub fewer : deliveries ≤ tries
   pub made : List Numbers
   pub count : length made ≡ deliveries
-  pub same : drained ours (stateOf t₀) s budget ≡ passes ours (budget - tries) (stateOf t) s (turnOf n o d) made tries
+  pub same : drained E (stateOf t₀) s budget ≡ passes E (budget - tries) (stateOf t) s (turnOf n o d) made tries
 
-pub drain-starts : (t : List ℕ) (n s budget o : ℕ) (d : Bool) → Drains t n s → turnOf n o d ≡ turn n s 0 false → Draining t t n s budget o d 0 0
+pub drain-starts : (E : Engine) (t : List ℕ) (n s budget o : ℕ) (d : Bool) → Drains t n s → turnOf n o d ≡ turn n s 0 false → Draining E t t n s budget o d 0 0
 unfolding drained
-drain-starts t n s budget o d h e =
+drain-starts E t n s budget o d h e =
     record {
       ready = h;
       fair = subst (Fair n s) (sym e) (turn-fair n s 0 false);
@@ -49,24 +49,24 @@ drain-starts t n s budget o d h e =
       fewer = omega arith;
       made = [];
       count = refl;
-      same = (λ i. passes ours budget (stateOf t) s (turn (sym (h .sites) i) s 0 false) [] 0) ∙ (λ i. passes ours (whole i) (stateOf t) s (sym e i) [] 0);
+      same = (λ i. passes E budget (stateOf t) s (turn (sym (h .sites) i) s 0 false) [] 0) ∙ (λ i. passes E (whole i) (stateOf t) s (sym e i) [] 0);
     }
   where
     whole : budget ≡ budget - 0
     whole = omega arith
 
-module _ {t₀ t : List ℕ} {n s budget o : ℕ} {d : Bool} {deliveries tries : ℕ} (D : Draining t₀ t n s budget o d deliveries tries) where
+module _ {E : Engine} {t₀ t : List ℕ} {n s budget o : ℕ} {d : Bool} {deliveries tries : ℕ} (D : Draining E t₀ t n s budget o d deliveries tries) where
   abbrev S : State
   S = stateOf t
 
-  pub drain-ended : n ≤ o → drained ours (stateOf t₀) s budget ≡ ended S (D .made) tries
-  drain-ended h = D .same ∙ rw (at-end n o d h) (passes-end ours (budget - tries) S s (D .made) tries)
+  pub drain-ended : n ≤ o → drained E (stateOf t₀) s budget ≡ ended S (D .made) tries
+  drain-ended h = D .same ∙ rw (at-end n o d h) (passes-end E (budget - tries) S s (D .made) tries)
 
   module _ (h : o < n) where
-    pub drain-stopped : tries ≡ budget → drained ours (stateOf t₀) s budget ≡ stopped S (D .made) tries
+    pub drain-stopped : tries ≡ budget → drained E (stateOf t₀) s budget ≡ stopped S (D .made) tries
     drain-stopped e =
         let z : budget - tries ≡ 0 = omega arith in
-        D .same ∙ rw (due-at n o d h, z) (passes-stop ours S s o d (D .made) tries)
+        D .same ∙ rw (due-at n o d h, z) (passes-stop E S s o d (D .made) tries)
 
     pub attempts : Attempts t s o
     attempts =
@@ -74,39 +74,39 @@ module _ {t₀ t : List ℕ} {n s budget o : ℕ} {d : Bool} {deliveries tries :
         let f : (o < n) × (o ≢ s) = subst (Fair n s) (due-at n o d h) (D .fair) in
         record { size = r .size; sound = r .sound; site = omega (arith, r .site, r .sites); origin = omega (arith, r .sites); others = λ e. f .1 (sym e) }
 
-    module _ (t′ : List ℕ) (size : length t′ ≡ length t) (after : stateOf t′ ≡ try ours S s o .after) (left : tries < budget) where
+    module _ (t′ : List ℕ) (size : length t′ ≡ length t) (after : stateOf t′ ≡ try E S s o .after) (left : tries < budget) where
       one-less : budget - tries ≡ suc (budget - (tries + 1))
       one-less = omega arith
 
       next : Drains t′ n s
       next =
-          let e : stateOf t′ ≡ run ours S (Deliver s o) .after = after ∙ ap (λ (w : Outcome). w .after) (try-runs ours S s o) in
+          let e : stateOf t′ ≡ run E S (Deliver s o) .after = after ∙ ap (λ (w : Outcome). w .after) (try-runs E S s o) in
           record {
             size = size ∙ D .ready .size;
-            sound = subst Sound (sym e) (keeps-sound ours S (Deliver s o) (D .ready .sound));
-            sites = D .ready .sites ∙ sym (ap (λ (T : State). T .n) e ∙ counts-kept ours S (Deliver s o) (λ n k p. let z : _≡_ {A = ℕ} 0 1 = cc in omega arith) .0);
+            sound = subst Sound (sym e) (keeps-sound E S (Deliver s o) (D .ready .sound));
+            sites = D .ready .sites ∙ sym (ap (λ (T : State). T .n) e ∙ counts-kept E S (Deliver s o) (λ n k p. let z : _≡_ {A = ℕ} 0 1 = cc in omega arith) .0);
             site = D .ready .site;
           }
 
-      pub drain-accepted : try ours S s o .answer .code ≡ 0 → Draining t₀ t′ n s budget o true (deliveries + 1) (tries + 1)
+      pub drain-accepted : try E S s o .answer .code ≡ 0 → Draining E t₀ t′ n s budget o true (deliveries + 1) (tries + 1)
       drain-accepted z =
           record {
             ready = next;
             fair = subst (Fair n s) (sym (due-at n o true h)) (subst (Fair n s) (due-at n o d h) (D .fair));
             within = omega arith;
             fewer = omega (arith, D .fewer);
-            made = try ours S s o .answer ∷ D .made;
+            made = try E S s o .answer ∷ D .made;
             count = omega (arith, D .count);
             same =
                 D .same
-                ∙ rw (due-at n o d h, one-less) (passes-accepted ours (budget - (tries + 1)) S s o d (D .made) tries z)
-                ∙ (λ i. passes ours (budget - (tries + 1)) (sym after i) s (sym (due-at n o true h) i) (try ours S s o .answer ∷ D .made) (suc-one i));
+                ∙ rw (due-at n o d h, one-less) (passes-accepted E (budget - (tries + 1)) S s o d (D .made) tries z)
+                ∙ (λ i. passes E (budget - (tries + 1)) (sym after i) s (sym (due-at n o true h) i) (try E S s o .answer ∷ D .made) (suc-one i));
           }
         where
           suc-one : suc tries ≡ tries + 1
           suc-one = omega arith
 
-      pub drain-refused : try ours S s o .answer .code ≢ 0 → (o′ : ℕ) (d′ : Bool) → turnOf n o′ d′ ≡ turn n s (o + 1) d → Draining t₀ t′ n s budget o′ d′ deliveries (tries + 1)
+      pub drain-refused : try E S s o .answer .code ≢ 0 → (o′ : ℕ) (d′ : Bool) → turnOf n o′ d′ ≡ turn n s (o + 1) d → Draining E t₀ t′ n s budget o′ d′ deliveries (tries + 1)
       drain-refused z o′ d′ e =
           record {
             ready = next;
@@ -117,12 +117,12 @@ module _ {t₀ t : List ℕ} {n s budget o : ℕ} {d : Bool} {deliveries tries :
             count = D .count;
             same =
                 D .same
-                ∙ rw (due-at n o d h, one-less) (passes-refused ours (budget - (tries + 1)) S s o d (D .made) tries z)
-                ∙ (λ i. passes ours (budget - (tries + 1)) (sym kept i) s (turned i) (D .made) (suc-one i));
+                ∙ rw (due-at n o d h, one-less) (passes-refused E (budget - (tries + 1)) S s o d (D .made) tries z)
+                ∙ (λ i. passes E (budget - (tries + 1)) (sym kept i) s (turned i) (D .made) (suc-one i));
           }
         where
           kept : stateOf t′ ≡ S
-          kept = after ∙ try-keeps S s o z
+          kept = after ∙ try-keeps E S s o z
 
           suc-one : suc tries ≡ tries + 1
           suc-one = omega arith

@@ -2,12 +2,12 @@
 ghost use mathlib.Core.Path.{_≡_};
 ghost use Prim.Native.Nat.{_≤_, _<_, _+_};
 ghost use Rattle.layout.specs.State.{stateOf};
-ghost use Rattle.rules.specs.Engine.{ours};
 ghost use Rattle.rules.specs.Drain.{skip, turn, drain};
 ghost use Rattle.rules.specs.Calls.{Drain};
-ghost use Rattle.table.specs.Answers.{numbersOf, served, Promise};
+ghost use Rattle.table.specs.Answers.{engineOf, numbersOf, served, PromiseBy};
 ghost use Rattle.drain.specs.Turns.{turnOf, Drains};
 use table::Answer;
+use table::Engine;
 use table::Refusal;
 
 // Where a try is due, in a pass that has delivered or not; from n on the drain is at its end.
@@ -52,9 +52,9 @@ fn next_turn(n: usize, s: usize, o: usize, delivered: bool) -> Turn
 }
 
 // The tries made are counted one for each delivery attempted; when one is due and the budget is spent it stops.
-fn passes(t: &mut [u8], n: usize, s: usize, budget: u16) -> Answer
+fn passes(t: &mut [u8], n: usize, s: usize, budget: u16, engine: Engine) -> Answer
     requires { ⌜ Drains (now t) n s ⌝ }
-    ensures { λ r. ⌜ (numbersOf r ≡ drain ours (stateOf (now (t .entry))) s budget .answer) × (stateOf (now (t .exit)) ≡ drain ours (stateOf (now (t .entry))) s budget .after) ⌝ }
+    ensures { λ r. ⌜ (numbersOf r ≡ drain (engineOf engine) (stateOf (now (t .entry))) s budget .answer) × (stateOf (now (t .exit)) ≡ drain (engineOf engine) (stateOf (now (t .entry))) s budget .after) ⌝ }
 {
     let start = next_turn(n, s, 0, false);
     let mut o = start.origin;
@@ -68,7 +68,7 @@ fn passes(t: &mut [u8], n: usize, s: usize, budget: u16) -> Answer
                 tries: tries,
             };
         }
-        let answer = table::attempt(t, s, o);
+        let answer = table::attempt(t, s, o, engine);
         tries += 1;
         if table::code(answer) == 0 {
             deliveries += 1;
@@ -85,14 +85,14 @@ fn passes(t: &mut [u8], n: usize, s: usize, budget: u16) -> Answer
     }
 }
 
-pub fn drain(t: &mut [u8], s: usize, budget: u16) -> Answer
-    ensures { λ r. ⌜ Promise (now (t .entry)) (Drain s budget) (served r (now (t .exit))) ⌝ }
+pub fn drain(t: &mut [u8], s: usize, budget: u16, engine: Engine) -> Answer
+    ensures { λ r. ⌜ PromiseBy engine (now (t .entry)) (Drain s budget) (served r (now (t .exit))) ⌝ }
 {
     let why = table::site_refusal(t, s);
     match why {
         Refusal::Nothing => {
             let h = layout::read_header(t);
-            passes(t, layout::wide_byte(h.n), s, budget)
+            passes(t, layout::wide_byte(h.n), s, budget, engine)
         }
         _ => Answer::Refused(why),
     }

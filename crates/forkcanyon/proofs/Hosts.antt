@@ -6,12 +6,11 @@ use mathlib.Core.Logic.{_≢_}
 use Prim.Native.Nat.{ℕ}
 use lib.ListN.{length}
 use borrow.Author.Tests.{eq-eqb, ne-eqb}
-use Rattle.rules.specs.Engine.{Engine, long, short}
+use Rattle.rules.specs.Engine.{Engine}
 use Rattle.rules.specs.Steps.{Numbers}
 use Rattle.rules.specs.Refusals.{Refusals, first, cold-words}
 use Rattle.laws.proofs.Given.{Avoids}
-use Rattle.laws.proofs.Sharing.{same-deliver, same-drain}
-use Rattle.rules.specs.Calls.{Call, Deliver, Drain, words, Served, Listed, serve}
+use Rattle.rules.specs.Calls.{Call, words, Served, Listed, serve}
 use Rattle.table.specs.declared.Answer.{Answer}
 use Rattle.table.specs.Answers.{numbersOf, served}
 use Rattle.cold.specs.Listing.{listed, Promise as Listing}
@@ -43,16 +42,6 @@ module _ (E : Engine) (t r : List ℕ) (c : Call) where
   hosts-call {t′ = t′} a x h s n w =
       rw (eq-eqb (length r) replyBytes h)
       ((λ i. left (w .returned i) t′ (w .written i)) ∙ ap (λ (y : Numbers). left (y .code) t′ (replyOf y)) n ∙ ap hosted s)
-
--- on the same bytes both engines deliver alike
-module _ (t r : List ℕ) (s : ℕ) where
-  pub hosts-deliver : (o : ℕ) → host long t r (Deliver s o) ≡ host short t r (Deliver s o)
-  unfolding host
-  hosts-deliver o = rw (same-deliver t s o)
-
-  pub hosts-drain : (b : ℕ) → host long t r (Drain s b) ≡ host short t r (Drain s b)
-  unfolding host
-  hosts-drain b = rw (same-drain t s b)
 
 -- ## The cold list
 

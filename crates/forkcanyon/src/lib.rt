@@ -87,7 +87,7 @@ fn put(site: u64, key: u64, value: u32, table: &mut [u8], reply: &mut [u8], engi
 pub extern "C" fn fc_put(site: u64, key: u64, value: u32, table: &mut [u8], reply: &mut [u8]) -> u32
     ensures { λ r. ⌜ Promise (now (table .entry)) (now (reply .entry)) (Put site key value) (left r (now (table .exit)) (now (reply .exit))) ⌝ }
 {
-    put(site, key, value, table, reply, Engine::Long)
+    put(site, key, value, table, reply, Engine::Ranked)
 }
 
 // With the engine that is given.
@@ -105,18 +105,25 @@ fn get(site: u64, key: u64, table: &mut [u8], reply: &mut [u8], engine: Engine) 
 pub extern "C" fn fc_get(site: u64, key: u64, table: &mut [u8], reply: &mut [u8]) -> u32
     ensures { λ r. ⌜ Promise (now (table .entry)) (now (reply .entry)) (Get site key) (left r (now (table .exit)) (now (reply .exit))) ⌝ }
 {
-    get(site, key, table, reply, Engine::Long)
+    get(site, key, table, reply, Engine::Ranked)
+}
+
+// With the engine that is given.
+fn deliver(site: u64, origin: u64, table: &mut [u8], reply: &mut [u8], engine: Engine) -> u32
+    ensures { λ r. ⌜ PromiseBy engine (now (table .entry)) (now (reply .entry)) (Deliver site origin) (left r (now (table .exit)) (now (reply .exit))) ⌝ }
+{
+    if reply.len() != Reply::BYTES {
+        return Reply::WRONG_SIZE;
+    }
+    let a = table::deliver(table, site as usize, origin as usize, engine);
+    answer(reply, numbers::numbers_of(a))
 }
 
 #[no_mangle]
 pub extern "C" fn fc_deliver(site: u64, origin: u64, table: &mut [u8], reply: &mut [u8]) -> u32
     ensures { λ r. ⌜ Promise (now (table .entry)) (now (reply .entry)) (Deliver site origin) (left r (now (table .exit)) (now (reply .exit))) ⌝ }
 {
-    if reply.len() != Reply::BYTES {
-        return Reply::WRONG_SIZE;
-    }
-    let a = table::deliver(table, site as usize, origin as usize);
-    answer(reply, numbers::numbers_of(a))
+    deliver(site, origin, table, reply, Engine::Ranked)
 }
 
 pub struct Budget {}
@@ -136,15 +143,22 @@ fn tries_allowed(budget: u64) -> u16
     }
 }
 
-#[no_mangle]
-pub extern "C" fn fc_drain(site: u64, budget: u64, table: &mut [u8], reply: &mut [u8]) -> u32
-    ensures { λ r. ⌜ Promise (now (table .entry)) (now (reply .entry)) (Drain site (min budget mostTries)) (left r (now (table .exit)) (now (reply .exit))) ⌝ }
+// With the engine that is given.
+fn drain(site: u64, budget: u64, table: &mut [u8], reply: &mut [u8], engine: Engine) -> u32
+    ensures { λ r. ⌜ PromiseBy engine (now (table .entry)) (now (reply .entry)) (Drain site (min budget mostTries)) (left r (now (table .exit)) (now (reply .exit))) ⌝ }
 {
     if reply.len() != Reply::BYTES {
         return Reply::WRONG_SIZE;
     }
-    let a = drain::drain(table, site as usize, tries_allowed(budget));
+    let a = drain::drain(table, site as usize, tries_allowed(budget), engine);
     answer(reply, numbers::numbers_of(a))
+}
+
+#[no_mangle]
+pub extern "C" fn fc_drain(site: u64, budget: u64, table: &mut [u8], reply: &mut [u8]) -> u32
+    ensures { λ r. ⌜ Promise (now (table .entry)) (now (reply .entry)) (Drain site (min budget mostTries)) (left r (now (table .exit)) (now (reply .exit))) ⌝ }
+{
+    drain(site, budget, table, reply, Engine::Ranked)
 }
 
 // With the engine that is given.
@@ -187,7 +201,7 @@ pub extern "C" fn fc_touch(
 ) -> u32
     ensures { λ r. ⌜ Promise (now (table .entry)) (now (reply .entry)) (Touch site key hour toucher tier) (left r (now (table .exit)) (now (reply .exit))) ⌝ }
 {
-    touch(site, key, hour, toucher, tier, table, reply, Engine::Long)
+    touch(site, key, hour, toucher, tier, table, reply, Engine::Ranked)
 }
 
 #[no_mangle]
@@ -238,5 +252,5 @@ pub extern "C" fn fc_adopt(
 ) -> u32
     ensures { λ r. ⌜ Promise (now (table .entry)) (now (reply .entry)) (Adopt site key origin clock) (left r (now (table .exit)) (now (reply .exit))) ⌝ }
 {
-    adopt(site, key, origin, clock, table, reply, Engine::Long)
+    adopt(site, key, origin, clock, table, reply, Engine::Ranked)
 }

@@ -1,5 +1,5 @@
 // The calls with short lists: a put sends its site's last put and what the site got or adopted since. A table is opened
-// with fc_open, and its puts, gets, adopts and touches are all short, or none is.
+// with fc_open, and its other calls but looks and cold lists are all short, or none is.
 ghost use Prim.Native.Nat.{min};
 ghost use Rattle.rules.specs.Calls.{Put, Get, Deliver, Drain, Touch, Adopt};
 ghost use Rattle.forkcanyon.specs.Host.{left, mostTries};
@@ -55,7 +55,6 @@ pub extern "C" fn fc_short_touch(
     crate::touch(site, key, hour, toucher, tier, table, reply, Engine::Short)
 }
 
-// On the same table both engines deliver alike.
 #[no_mangle]
 pub extern "C" fn fc_short_deliver(
     site: u64,
@@ -65,12 +64,12 @@ pub extern "C" fn fc_short_deliver(
 ) -> u32
     ensures { λ r. ⌜ Promise (now (table .entry)) (now (reply .entry)) (Deliver site origin) (left r (now (table .exit)) (now (reply .exit))) ⌝ }
 {
-    crate::fc_deliver(site, origin, table, reply)
+    crate::deliver(site, origin, table, reply, Engine::Short)
 }
 
 #[no_mangle]
 pub extern "C" fn fc_short_drain(site: u64, budget: u64, table: &mut [u8], reply: &mut [u8]) -> u32
     ensures { λ r. ⌜ Promise (now (table .entry)) (now (reply .entry)) (Drain site (min budget mostTries)) (left r (now (table .exit)) (now (reply .exit))) ⌝ }
 {
-    crate::fc_drain(site, budget, table, reply)
+    crate::drain(site, budget, table, reply, Engine::Short)
 }

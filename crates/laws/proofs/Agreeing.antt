@@ -13,9 +13,7 @@ use Rattle.layout.specs.State.{State, Entry, Update, withDepends, withStore, wi
 use Rattle.rules.specs.Engine.{long, short}
 use Rattle.rules.specs.Sound.{place, Retained, Sound, sound}
 use Rattle.rules.specs.Steps as r
-use Rattle.rules.specs.Touch.{is}
 use Rattle.rules.specs.Steps.{opened, next, waiting}
-use Rattle.rules.specs.Calls.{Open, Put, Get, Deliver}
 use Rattle.laws.specs.Agreement.{SameEntry}
 use Rattle.laws.proofs.Ready.{OpenReady, PutReady, GetReady, DeliverReady}
 use Rattle.laws.proofs.Keeps.{up-le, up-new, depends-sound, open-sound, put-sound, deliver-sound, deliver-own, deliver-behind, deliver-retained, put-retained, put-stands}

@@ -2,11 +2,10 @@
 use mathlib.Core.Path.{_≡_, refl, sym, ap, subst, _∙_}
 use mathlib.Core.Bool.{false}
 use mathlib.Core.List.{List, []}
-use mathlib.Core.Logic.{⊎-elim, _≢_}
+use mathlib.Core.Logic.{⊎-elim}
 use Prim.Native.Nat.{ℕ, _^_, _<_}
 use native.Mathlib.Omega.{arith}
 use lib.Dec.{eqb}
-use borrow.Author.Tests.{eqb-false}
 use lib.ListN.{getD, length, replicate, length-replicate}
 use Rattle.clock.specs.Map.{_⟨_≔_⟩, _⟨_⟩⟨_≔_⟩}
 use Rattle.clock.specs.Vector.{Vector, zeros, join, note}
@@ -17,7 +16,7 @@ use Rattle.layout.specs.State.{State, Entry, Update, ofEntry, ofUpdate, allZero
 use Rattle.layout.specs.Ranges.{Bytes, Rows, FitsVector, FitsFields, Fits}
 use Rattle.layout.proofs.TableTrips.{state-fits}
 use Rattle.layout.proofs.Zeros.{all-zero}
-use Rattle.rules.specs.Sound.{place, Sound}
+use Rattle.rules.specs.Sound.{place}
 use Rattle.rules.specs.Engine.{Engine, taken-on, long, short, ours}
 use Rattle.rules.specs.Steps as r
 use Rattle.rules.specs.Touch.{touchOf, keepsHour, touched}
@@ -68,7 +67,13 @@ pub long-fits : FitsEngine long
 long-fits = record { learned = taken-on-fits; sent = λ d e F G h. F; left = note-fits; own = λ v F. zeros-fit }
 
 pub ours-fits : FitsEngine ours
-ours-fits = long-fits
+ours-fits =
+    record {
+      learned = taken-on-fits;
+      sent = λ d e F G h. choice (eqb (e .clock) 0) FitsVector (λ z. F) (λ z. taken-on-fits d e F G h);
+      left = note-fits;
+      own = λ v F. F;
+    }
 
 pub short-fits : FitsEngine short
 short-fits =
@@ -88,7 +93,7 @@ module _ (S : State) (F : Fits S) where
   depends-fits : (s : ℕ) → s < 8 → FitsVector (S .depends s)
   depends-fits s p = F .1 .1 .1 .1 .1 .0 .0 s p
 
-  entry-fits : (s x : ℕ) → s < 8 → x < 64 → FitsFields (ofEntry (S .store s x))
+  pub entry-fits : (s x : ℕ) → s < 8 → x < 64 → FitsFields (ofEntry (S .store s x))
   entry-fits s x p q = F .1 .1 .1 .1 .1 .1 .0 .0 s p .0 x q
 
   update-fits : (o p : ℕ) → o < 8 → p < 16 → FitsFields (ofUpdate (S .updates o p))

@@ -7,6 +7,7 @@ pub mod Touching
 pub mod Draining
 pub mod Turns
 pub mod Sums
+pub mod Ranks
 pub mod Tries
 pub mod After
 pub mod Codes
@@ -18,3 +19,5 @@ pub mod Outcomes
 pub mod Agreeing
 pub mod Agreed
 pub mod Sharing
+pub mod Spare
+pub mod Elsewhere

@@ -4,7 +4,7 @@ use mathlib.Core.Logic.{_⊎_, inl, inr, _≢_}
 use Prim.Native.Nat.{ℕ, zero, suc, _+_, _*_, _≤_, _<_}
 use native.Mathlib.Omega.{arith}
 use Rattle.clock.proofs.Maps.{eq?}
-use Rattle.laws.specs.Theorems.{sum}
+use Rattle.clock.specs.Map.{sum}
 
 pub sum-same : (f g : ℕ → ℕ) (m : ℕ) → ((i : ℕ) → i < m → f i ≡ g i) → sum m f ≡ sum m g
 unfolding sum

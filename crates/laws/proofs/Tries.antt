@@ -10,13 +10,13 @@ use native.Mathlib.Numerals.{add-one}
 use lib.Dec.{ltb}
 use lib.ListN.{length}
 use borrow.Author.Tests.{ltb-true, ltb-false}
-use Rattle.clock.specs.Map.{if_then_else_}
+use Rattle.clock.specs.Map.{if_then_else_, sum}
 use Rattle.clock.proofs.Maps.{choice, at-is₂}
 use Rattle.layout.specs.State.{State}
 use Rattle.rules.specs.Engine.{Engine}
 use Rattle.rules.specs.Steps.{Numbers, deliver, next}
 use Rattle.rules.specs.Drain.{Turn, end, due, skip, turn, Drained, passes, drained, drain}
-use Rattle.laws.specs.Theorems.{sum, pending, DrainRises, TriesBounded, PendingBounded, BudgetEnough}
+use Rattle.laws.specs.Theorems.{pending, DrainRises, TriesBounded, PendingBounded, BudgetEnough}
 use Rattle.laws.proofs.Ready.{DeliverReady}
 use Rattle.laws.proofs.Keeps.{up-new, deliver-own, deliver-behind}
 use Rattle.laws.proofs.Sums.{sum-more, sum-most-but}

@@ -2,13 +2,12 @@
 use mathlib.Core.Path.{_≡_}
 use mathlib.Core.List.{List}
 use Prim.Native.Nat.{ℕ}
-use lib.ListN.{length}
 use Rattle.layout.specs.State.{stateOf}
 use Rattle.layout.specs.Ranges.{Bytes}
 use Rattle.rules.specs.Engine.{Engine}
-use Rattle.rules.specs.Steps.{refused, done}
+use Rattle.rules.specs.Steps.{done}
 use Rattle.rules.specs.Refusals.{first}
-use Rattle.rules.specs.Calls.{Get, Look, Adopt, Cold, asks, serve, serve-list}
+use Rattle.rules.specs.Calls.{Get, Look, Adopt, asks, serve, serve-list}
 
 -- "look, which answers as get and changes nothing", for every buffer
 abbrev pub LookKeeps : Type 0

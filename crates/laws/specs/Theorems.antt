@@ -3,9 +3,9 @@ use mathlib.Core.Path.{_≡_}
 use mathlib.Core.Bool.{true, false}
 use mathlib.Core.List.{List, [], _∷_, _++_}
 use mathlib.Core.Logic.{_⊎_, _≢_, _↔_}
-use Prim.Native.Nat.{ℕ, zero, suc, _+_, _*_, _-_, _≤_, _<_}
+use Prim.Native.Nat.{ℕ, _+_, _*_, _-_, _≤_, _<_}
 use lib.ListN.{length}
-use Rattle.clock.specs.Map.{bit}
+use Rattle.clock.specs.Map.{bit, sum}
 use Rattle.layout.specs.State.{State}
 use Rattle.rules.specs.Sound.{sound, Sound}
 use Rattle.rules.specs.Engine.{Engine}
@@ -121,11 +121,6 @@ abbrev pub MissingNamed : Type 0
 MissingNamed = (E : Engine) (S : State) (s o : ℕ) → run E S (Deliver s o) .answer .code ≡ 10 → LowestMissing S s o (run E S (Deliver s o) .answer)
 
 -- ## Drain
-
--- the sum of f at the numbers below m
-unfoldable pub sum : ℕ → (ℕ → ℕ) → ℕ
-sum zero f = 0
-sum (suc m) f = sum m f + f m
 
 -- the updates undelivered at s
 unfoldable pub pending : State → (s : ℕ) → ℕ

@@ -79,10 +79,10 @@ bounds =
     -- case 14
     ∷ case 11 (opened 3 4) (Put 0 1 7 ∷ Deliver 1 0 ∷ Get 1 1 ∷ Put 1 2 9 ∷ Drain 2 5 ∷ []) (done 1 0 1 7 ∷ done 1 0 1 7 ∷ done 1 0 1 7 ∷ done 2 1 1 9 ∷ spent 2 5 ∷ [])
     ∷ case 11 (opened 3 4) (Put 0 1 7 ∷ Deliver 1 0 ∷ Get 1 1 ∷ Put 1 2 9 ∷ Drain 2 6 ∷ []) (done 1 0 1 7 ∷ done 1 0 1 7 ∷ done 1 0 1 7 ∷ done 2 1 1 9 ∷ done 0 0 2 6 ∷ [])
-    -- a put: its update with the row before it, its entry, the counts and the row of its site
+    -- a put: its update and its entry with the row before it, the counts and the row of its site
     ∷ case-of 0 (even 3 2) (Put 0 1 5 ∷ []) (done 1 0 4 5 ∷ [])
     (λ S T. in-update (T .updates 0 3) ++ in-entry (T .store 0 1) ++ eight (T .applied 0) ++ eight (T .applied 1) ++ eight (T .depends 0) ++ eight (T .depends 1))
-    (5 ∷ 1 ∷ 0 ∷ 4 ∷ eight (λ j. 2) ++ (5 ∷ 0 ∷ 0 ∷ 4 ∷ eight zeros) ++ eight ((λ j. 3) ⟨ 0 ≔ 4 ⟩) ++ eight (λ j. 3) ++ eight ((λ j. 2) ⟨ 0 ≔ 4 ⟩) ++ eight (λ j. 2))
+    (5 ∷ 1 ∷ 0 ∷ 4 ∷ eight (λ j. 2) ++ (5 ∷ 0 ∷ 0 ∷ 4 ∷ eight (λ j. 2)) ++ eight ((λ j. 3) ⟨ 0 ≔ 4 ⟩) ++ eight (λ j. 3) ++ eight ((λ j. 2) ⟨ 0 ≔ 4 ⟩) ++ eight (λ j. 2))
     -- the greater of its clock and the number there
     ∷ case-of 0 (even 3 7) (Put 0 1 5 ∷ []) (done 1 0 4 5 ∷ []) (λ S T. eight (T .depends 0)) (eight (λ j. 7))
     -- a get: the entry's vector and its pair, in the row of its site

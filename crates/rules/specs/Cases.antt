@@ -3,12 +3,12 @@ use mathlib.Core.Path.{_≡_, refl}
 use mathlib.Core.List.{List, [], _∷_, _++_}
 use Prim.Native.Nat.{ℕ}
 use lib.Dec.{eqb}
-use Rattle.clock.specs.Map.{if_then_else_, all, any, least, mask}
+use Rattle.clock.specs.Map.{if_then_else_, all, any, least, mask, sum}
 use lib.ListN.{replicate}
 use Rattle.layout.specs.State.{State, bytesOf}
 use Rattle.rules.specs.Sound.{sound, header, counted, blank, written, smallest, lowest, holds, retains}
 use Rattle.rules.specs.Touch.{kind, chosen, coldList}
-use Rattle.rules.specs.Engine.{Engine, short, ours}
+use Rattle.rules.specs.Engine.{Engine, outranks, short, ours}
 use Rattle.rules.specs.Steps.{Numbers, refused, done, opened, put, learn, get, look, deliver, touch, cold}
 use Rattle.rules.specs.Refusals.{open-refusals, full, put-refusals, get-refusals, adopt-refusals, deliver-refusals, site-refusals, touch-refusals}
 use Rattle.rules.specs.Drain.{try, passes, drained, drain}
@@ -16,7 +16,7 @@ use Rattle.rules.specs.Calls.{Call, Put, Get, Deliver, Drain, refusals, 
 
 -- opens every rule, for what is computed
 unfoldable pub rules : ℕ
-unfolding all any least mask sound header counted blank written smallest lowest holds retains opened put learn get look deliver open-refusals full put-refusals get-refusals adopt-refusals deliver-refusals site-refusals touch-refusals try passes drained drain kind chosen coldList touch cold refusals beside step run
+unfolding all any least mask sum sound header counted blank written smallest lowest holds retains opened outranks put learn get look deliver open-refusals full put-refusals get-refusals adopt-refusals deliver-refusals site-refusals touch-refusals try passes drained drain kind chosen coldList touch cold refusals beside step run
 rules = 0
 
 -- calls on a freshly opened table, their answers, and what is seen of the table before and after the last call
@@ -65,8 +65,9 @@ ten j c b = record { code = 10; key = 0; site = j; clock = c; value = b }
 abbrev pub spent : (deliveries tries : ℕ) → Numbers
 spent d t = record { code = 11; key = 0; site = 0; clock = d; value = t }
 
-unfoldable pub cases : List Case
-cases =
+-- with what the two sites of case 13 hold in the end
+unfoldable pub cases : (held : List ℕ) → List Case
+cases held =
     case 1 (opened 2 2) (Put 0 0 5 ∷ []) (done 0 0 1 5 ∷ [])
     ∷ case 3 (opened 2 2) (Put 1 0 5 ∷ Put 2 0 5 ∷ []) (done 0 1 1 5 ∷ refused 4 ∷ [])
     ∷ case 4 (opened 2 2) (Put 0 1 5 ∷ Put 0 2 5 ∷ []) (done 1 0 1 5 ∷ refused 6 ∷ [])
@@ -81,7 +82,7 @@ cases =
     ∷ case 12 (opened 3 2) (Put 0 0 7 ∷ Deliver 1 0 ∷ Get 1 0 ∷ Put 1 1 9 ∷ Deliver 2 1 ∷ [])
     (done 0 0 1 7 ∷ done 0 0 1 7 ∷ done 0 0 1 7 ∷ done 1 1 1 9 ∷ ten 0 1 1 ∷ [])
     ∷ case-of 13 (opened 2 2) (Put 0 0 5 ∷ Put 1 0 6 ∷ Deliver 0 1 ∷ Deliver 1 0 ∷ []) (done 0 0 1 5 ∷ done 0 1 1 6 ∷ done 0 1 1 6 ∷ done 0 0 1 5 ∷ [])
-    (λ S T. T .store 0 0 .value ∷ T .store 1 0 .value ∷ []) (6 ∷ 5 ∷ [])
+    (λ S T. T .store 0 0 .value ∷ T .store 1 0 .value ∷ []) held
     ∷ case 15 (opened 1 2) (Drain 0 0 ∷ []) (done 0 0 0 0 ∷ [])
     ∷ case 15 (opened 2 2) (Drain 0 0 ∷ Drain 0 1 ∷ []) (spent 0 0 ∷ done 0 0 0 1 ∷ [])
     ∷ case 0 (opened 3 4) (Put 0 1 7 ∷ Deliver 1 0 ∷ Get 1 1 ∷ Put 1 2 9 ∷ Deliver 2 1 ∷ Drain 2 903 ∷ Get 2 1 ∷ [])
@@ -99,11 +100,12 @@ abbrev pub Computed : Engine → List Case → Type 0
 Computed E [] = Unit {0}
 Computed E (c ∷ cs) = (computed E c ≡ expected c) × Computed E cs
 
-pub starred : Computed ours cases
+-- "In case 13 both sites then hold 6"
+pub starred : Computed ours (cases (6 ∷ 6 ∷ []))
 unfolding rules bytesOf cases
 starred = (refl, (refl, (refl, (refl, (refl, (refl, (refl, (refl, (refl, (refl, (refl, (refl, (refl, (refl, tt))))))))))))))
 
--- figure 15 answers the same
-pub starred-short : Computed short cases
+-- figure 15 answers the same, and "two sites disagree for good"
+pub starred-short : Computed short (cases (6 ∷ 5 ∷ []))
 unfolding rules bytesOf cases
 starred-short = (refl, (refl, (refl, (refl, (refl, (refl, (refl, (refl, (refl, (refl, (refl, (refl, (refl, (refl, tt))))))))))))))

@@ -11,3 +11,4 @@ pub mod SoundCases
 pub mod TouchCases
 pub mod LookCases
 pub mod ShortCases
+pub mod RankCases

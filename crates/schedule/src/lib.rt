@@ -106,10 +106,10 @@ fn call(t: &mut [u8], p: Step) -> Answer
     let operation = p.operation;
     let site = p.site as usize;
     match operation {
-        0 => table::put(t, site, p.key as usize, p.value, Engine::Long),
-        1 => table::get(t, site, p.key as usize, Engine::Long),
-        2 => table::deliver(t, site, p.origin as usize),
-        _ => drain::drain(t, site, Schedule::BUDGET),
+        0 => table::put(t, site, p.key as usize, p.value, Engine::Ranked),
+        1 => table::get(t, site, p.key as usize, Engine::Ranked),
+        2 => table::deliver(t, site, p.origin as usize, Engine::Ranked),
+        _ => drain::drain(t, site, Schedule::BUDGET, Engine::Ranked),
     }
 }
 

@@ -97,6 +97,10 @@ get-fits t s x l R =
       origin = omega (arith, get-origin (stateOf t) s x R, n);
     }
 
+-- what that of a put relies on, of the entry that it overwrites
+pub over-fits : (t : List ℕ) (s x : ℕ) → length t ≡ table .width → PutReady (stateOf t) s x → GetFits t s x
+over-fits t s x l R = get-fits t s x l (record { sound = R .sound; site = R .site; key = R .key })
+
 pub deliver-clear : (t : List ℕ) (s o : ℕ) → first (deliverIn t s o) ≡ 0 → Attempts t s o
 deliver-clear t s o h =
     let S : State = stateOf t in

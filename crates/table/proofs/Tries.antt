@@ -7,7 +7,6 @@ use Prim.Native.Nat.{ℕ, _+_, _-_, _%_, _<_}
 use native.Mathlib.Omega.{arith}
 use borrow.Author.Tests.{eq-eqb, ne-eqb}
 use Rattle.clock.specs.Map.{any}
-use Rattle.clock.specs.Vector.{Vector}
 use Rattle.clock.specs.declared.Compared.{Compared}
 use Rattle.clock.specs.Clock.{columns, compare}
 use Rattle.layout.specs.State.{State, Update, stateOf, lastClock}
@@ -15,7 +14,7 @@ use Rattle.layout.specs.Ranges.{Bytes}
 use Rattle.layout.specs.declared.Record.{Record}
 use Rattle.layout.specs.Records.{updateOf}
 use Rattle.layout.proofs.TableTrips.{state-fits}
-use Rattle.rules.specs.Engine.{ours}
+use Rattle.rules.specs.Engine.{Engine}
 use Rattle.rules.specs.Sound.{Sound, Retained}
 use Rattle.rules.specs.Steps.{refused, next, waiting, deliver}
 use Rattle.rules.specs.Refusals.{missing, cause, deliver-refusals, undelivered}
@@ -24,23 +23,23 @@ use Rattle.laws.proofs.Given.{unless-none, unless-first}
 use Rattle.laws.proofs.Ready.{deliver-asks}
 use Rattle.table.specs.Asked.{Attempts, DeliverFits}
 
-module _ (S : State) (s o : ℕ) (D : Sound S) (hs : s < S .n) (ho : o < S .n) (hd : s ≢ o) where
-  pub try-nine : S .applied s o ≡ S .applied o o → try ours S s o ≡ record { answer = refused 9; after = S }
+module _ (E : Engine) (S : State) (s o : ℕ) (D : Sound S) (hs : s < S .n) (ho : o < S .n) (hd : s ≢ o) where
+  pub try-nine : S .applied s o ≡ S .applied o o → try E S s o ≡ record { answer = refused 9; after = S }
   unfolding try
   try-nine e =
-      unless-first (deliver-refusals S s o) (undelivered S s o) S (deliver ours S s o) 9 (deliver-asks S s o D hs ho hd ∙ rw (eq-eqb (S .applied s o) (S .applied o o) e)) (omega arith)
+      unless-first (deliver-refusals S s o) (undelivered S s o) S (deliver E S s o) 9 (deliver-asks S s o D hs ho hd ∙ rw (eq-eqb (S .applied s o) (S .applied o o) e)) (omega arith)
 
   module _ (behind : S .applied s o ≢ S .applied o o) where
-    pub try-ten : any 8 (missing S s o) ≡ true → try ours S s o ≡ record { answer = cause S s o; after = S }
+    pub try-ten : any 8 (missing S s o) ≡ true → try E S s o ≡ record { answer = cause S s o; after = S }
     unfolding try
     try-ten e =
-        unless-first (deliver-refusals S s o) (undelivered S s o) S (deliver ours S s o) 10
+        unless-first (deliver-refusals S s o) (undelivered S s o) S (deliver E S s o) 10
         (deliver-asks S s o D hs ho hd ∙ rw (ne-eqb (S .applied s o) (S .applied o o) behind, e)) (omega arith)
 
-    pub try-done : any 8 (missing S s o) ≡ false → try ours S s o ≡ deliver ours S s o
+    pub try-done : any 8 (missing S s o) ≡ false → try E S s o ≡ deliver E S s o
     unfolding try
     try-done e =
-        unless-none (deliver-refusals S s o) (undelivered S s o) S (deliver ours S s o)
+        unless-none (deliver-refusals S s o) (undelivered S s o) S (deliver E S s o)
         (deliver-asks S s o D hs ho hd ∙ rw (ne-eqb (S .applied s o) (S .applied o o) behind, e))
 
 -- two numbers that code has read differ in the table
@@ -70,8 +69,8 @@ module _ (t : List ℕ) (s o : ℕ) (h : Attempts t s o) (behind : stateOf t .ap
         let e : p ≡ next S s o - 1 = ep ∙ omega arith in
         eu ∙ (λ i. S .updates o (e i % 16))
 
-    pub compared : (row : Vector) → row ≡ S .applied s → (m : Compared) → m ≡ compare (columns (u .depends)) row → compare (waiting S s o .depends) (S .applied s) ≡ m
-    compared row er m e = sym (e ∙ (λ i. compare (next-update i .depends) (er i)))
+    pub compared : (m : Compared) → m ≡ compare (columns (u .depends)) (S .applied s) → compare (waiting S s o .depends) (S .applied s) ≡ m
+    compared m e = sym (e ∙ (λ i. compare (next-update i .depends) (S .applied s)))
 
     pub deliver-fits : (c : ℕ) → c ≡ S .applied s o + 1 → DeliverFits t s o u c
     deliver-fits c ec =

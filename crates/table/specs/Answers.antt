@@ -9,7 +9,7 @@ use Rattle.rules.specs.Calls.{Call, Served, serve}
 use Rattle.table.specs.declared.Refusal.{Refusal}
 use Rattle.table.specs.declared.Refusal.the-variants.{Nothing, Size, Unsound, Counts, Site, Same, Key, Spent, Full, NoNext, NoRecord, OutOfRange, Changed}
 use Rattle.table.specs.declared.Engine.{Engine}
-use Rattle.table.specs.declared.Engine.the-variants.{Long, Short}
+use Rattle.table.specs.declared.Engine.the-variants.{Ranked, Short}
 use Rattle.table.specs.declared.Answer.{Answer}
 use Rattle.table.specs.declared.Answer.the-variants.{Done, Missing, Drained, Stopped, Refused}
 
@@ -29,7 +29,7 @@ codeOf OutOfRange = 14
 codeOf Changed = 15
 
 abbrev pub engineOf : Engine → rules.Engine
-engineOf Long = rules.long
+engineOf Ranked = rules.ranked
 engineOf Short = rules.short
 
 abbrev pub numbersOf : Answer → Numbers

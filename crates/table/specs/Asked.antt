@@ -6,12 +6,13 @@ use mathlib.Core.Logic.{_≢_}
 use Prim.Native.Nat.{ℕ, _+_, _<_}
 use lib.Dec.{eqb, leb}
 use lib.ListN.{length}
-use Rattle.clock.specs.Map.{any, _⟨_≔_⟩}
+use Rattle.clock.specs.Map.{if_then_else_, any, _⟨_≔_⟩, _⟨_⟩⟨_≔_⟩}
 use Rattle.clock.specs.Vector.{Vector}
-use Rattle.layout.specs.State.{State, Entry, stateOf, lastClock, table, withDepends}
+use Rattle.layout.specs.State.{State, Entry, Update, stateOf, lastClock, table, withDepends, withStore, withUpdates}
 use Rattle.layout.specs.declared.Record.{Record}
 use Rattle.layout.specs.Records.{updateOf}
-use Rattle.rules.specs.Sound.{sound, Sound}
+use Rattle.rules.specs.Sound.{place, sound, Sound}
+use Rattle.rules.specs.Engine.{Engine}
 use Rattle.rules.specs.Steps.{waiting, next}
 use Rattle.rules.specs.Refusals.{Refusals}
 
@@ -43,13 +44,29 @@ deliverIn t s o = (1, not (eqb (length t) (table .width))) ∷ (2, not (sound (s
 abbrev pub Row : State → (s : ℕ) → Vector → State → Type 0
 Row S s v T = T ≡ withDepends S (S .depends ⟨ s ≔ v ⟩)
 
+-- the update of the put (s, c) stands at its place, with the row of its site
+abbrev pub Sent : State → (s x v c : ℕ) → State → Type 0
+Sent S s x v c T = T ≡ withUpdates S (S .updates ⟨ s ⟩⟨ place c ≔ record { value = v; key = x; zero = 0; clock = c; depends = S .depends s } ⟩)
+
+-- the entry of x at s is the put (o, c) with the vector d
+abbrev pub Stored : State → (s x o v c : ℕ) → (d : Vector) → State → Type 0
+Stored S s x o v c d T = T ≡ withStore S (S .store ⟨ s ⟩⟨ x ≔ record { value = v; origin = o; zero = 0; clock = c; depends = d } ⟩)
+
+-- the entry of the update's key at s is the put (o, c), if the engine replaces it, and nothing else changed
+abbrev pub Replaced : Engine → State → (s o : ℕ) → Update → (c : ℕ) → State → Type 0
+Replaced E S s o u c T =
+    let M = S .store ⟨ s ⟩⟨ u .key ≔ record { value = u .value; origin = o; zero = 0; clock = c; depends = u .depends } ⟩ in
+    T ≡ withStore S (if E .replaces u o (S .store s (u .key)) then M else S .store)
+
 -- ## What the steps rely on
 
-pub record PutFits (t : List ℕ) (s x : ℕ) : Type 0 where
+-- the site has taken on what its put overwrites: it sends the row as it is
+pub record PutFits (E : Engine) (t : List ℕ) (s x : ℕ) : Type 0 where
   pub size : length t ≡ table .width
   pub site : s < 8
   pub key : x < 64
   pub clock : stateOf t .applied s s ≢ lastClock
+  pub taken : E .sent (stateOf t .depends s) (stateOf t .store s x) ≡ stateOf t .depends s
 
 pub record EntryFits (t : List ℕ) (s x : ℕ) : Type 0 where
   pub size : length t ≡ table .width

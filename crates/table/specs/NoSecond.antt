@@ -35,11 +35,11 @@ put-no-second e s x v = no-second-by e (Put s x v)
 pub get-no-second : (e : Engine) (s x : ℕ) → NoSecondBy e (Get s x) × OneBy e (Get s x)
 get-no-second e s x = no-second-by e (Get s x)
 
-pub deliver-no-second : (s o : ℕ) → NoSecond (Deliver s o) × One (Deliver s o)
-deliver-no-second s o = no-second (Deliver s o)
+pub deliver-no-second : (e : Engine) (s o : ℕ) → NoSecondBy e (Deliver s o) × OneBy e (Deliver s o)
+deliver-no-second e s o = no-second-by e (Deliver s o)
 
-pub drain-no-second : (s b : ℕ) → NoSecond (Drain s b) × One (Drain s b)
-drain-no-second s b = no-second (Drain s b)
+pub drain-no-second : (e : Engine) (s b : ℕ) → NoSecondBy e (Drain s b) × OneBy e (Drain s b)
+drain-no-second e s b = no-second-by e (Drain s b)
 
 pub touch-no-second : (e : Engine) (s x hour u r : ℕ) → NoSecondBy e (Touch s x hour u r) × OneBy e (Touch s x hour u r)
 touch-no-second e s x hour u r = no-second-by e (Touch s x hour u r)

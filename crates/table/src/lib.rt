@@ -2,21 +2,22 @@
 ghost use mathlib.Core.Path.{_≡_};
 ghost use Prim.Native.Nat.{_+_, _≤_, _<_};
 ghost use lib.ListN.{length};
+ghost use Rattle.clock.specs.Clock.{columns, compare};
 ghost use Rattle.layout.specs.State.{stateOf, lastClock, table};
 ghost use Rattle.layout.specs.Records.{entryOf};
-ghost use Rattle.rules.specs.Engine.{ours};
 ghost use Rattle.rules.specs.Steps.{next, put, learn, deliver};
 ghost use Rattle.rules.specs.Refusals.{first};
 ghost use Rattle.rules.specs.Drain.{try};
 ghost use Rattle.rules.specs.Calls.{Open, Put, Get, Deliver, Drain, asks};
 ghost use Rattle.table.specs.Answers.{codeOf, engineOf, numbersOf, served, Promise, PromiseBy};
-ghost use Rattle.table.specs.Asked.{tableIn, namesIn, sitesIn, fullIn, roomIn, deliverIn, Row, PutFits, GetFits, DeliverFits, Attempts};
+ghost use Rattle.table.specs.Asked.{tableIn, namesIn, sitesIn, fullIn, roomIn, deliverIn, PutFits, GetFits, DeliverFits, Attempts};
 use clock::Clock;
 use clock::Compared;
 use layout::Record;
 use layout::Table;
 
 pub mod look;
+pub mod rows;
 
 // Why a call is refused; Nothing where it is not.
 pub enum Refusal {
@@ -35,9 +36,9 @@ pub enum Refusal {
     Changed,
 }
 
-// How a site keeps what it depends on: in full, or as a short list.
+// How a site keeps what it depends on, and whether puts are ranked by it: in full and ranked, or as a short list.
 pub enum Engine {
-    Long,
+    Ranked,
     Short,
 }
 
@@ -236,58 +237,16 @@ fn after(c: u16) -> u16
     c + 1
 }
 
-// The dependency row after the put (s, c): the pair joins the row, or is all that is left.
-fn leave_row(t: &mut [u8], s: usize, c: u16, engine: Engine)
-    requires { ⌜ (length (now t) ≡ table .width) × (s < 8) ⌝ }
-    ensures { λ _. ⌜ Row (stateOf (now (t .entry))) s (engineOf engine .left (stateOf (now (t .entry)) .depends s) s c) (stateOf (now (t .exit))) ⌝ }
-{
-    match engine {
-        Engine::Long => {
-            layout::set_depends_at(t, s, s, clock::greater(layout::depends_at(t, s, s), c));
-        }
-        Engine::Short => {
-            let zero = Clock::zero();
-            layout::set_depends(t, s, zero.note(s, c));
-        }
-    }
-}
-
-// The update at its place, the entry, the applied count and the dependency row.
+// The update at its place, the entry, the applied count and the row, which has taken on what is overwritten.
 pub fn put_step(t: &mut [u8], s: usize, x: usize, v: u32, engine: Engine) -> u16
-    requires { ⌜ PutFits (now t) s x ⌝ }
+    requires { ⌜ PutFits (engineOf engine) (now t) s x ⌝ }
     ensures { λ r. ⌜ (r ≡ next (stateOf (now (t .entry))) s s) × (stateOf (now (t .exit)) ≡ put (engineOf engine) (stateOf (now (t .entry))) s x v .after) ⌝ }
 {
     let c = after(layout::applied_at(t, s, s));
-    let p = layout::wide(c - 1) % Table::PLACES;
-    let d = layout::depends(t, s, s + 1);
-    let row = Clock { col: d[s] };
-    let zero = Clock::zero();
-    layout::set_update(
-        t,
-        s,
-        p,
-        Record {
-            value: v,
-            tag: x as u8,
-            zero: 0,
-            clock: c,
-            depends: row,
-        },
-    );
-    layout::set_entry(
-        t,
-        s,
-        x,
-        Record {
-            value: v,
-            tag: s as u8,
-            zero: 0,
-            clock: c,
-            depends: zero,
-        },
-    );
+    rows::send(t, s, x, v, c);
+    rows::store_own(t, s, x, v, c, engine);
     layout::set_applied(t, s, s, c);
-    leave_row(t, s, c, engine);
+    rows::leave_row(t, s, c, engine);
     c
 }
 
@@ -297,6 +256,7 @@ pub fn put(t: &mut [u8], s: usize, x: usize, v: u32, engine: Engine) -> Answer
     let why = put_refusal(t, s, x);
     match why {
         Refusal::Nothing => {
+            rows::take_on(t, s, x, engine);
             let c = put_step(t, s, x, v, engine);
             Answer::Done {
                 key: x as u8,
@@ -309,31 +269,6 @@ pub fn put(t: &mut [u8], s: usize, x: usize, v: u32, engine: Engine) -> Answer
     }
 }
 
-// The dependency row joined with the entry's vector and then with its pair, or with the pair alone.
-fn learn_row(t: &mut [u8], s: usize, e: Record, engine: Engine)
-    requires { ⌜ (length (now t) ≡ table .width) × (s < 8) × (e .tag < 8) ⌝ }
-    ensures { λ _. ⌜ Row (stateOf (now (t .entry))) s (engineOf engine .learned (stateOf (now (t .entry)) .depends s) (entryOf e)) (stateOf (now (t .exit))) ⌝ }
-{
-    let o = layout::wide_byte(e.tag);
-    match engine {
-        Engine::Long => {
-            let d = layout::depends(t, s, s + 1);
-            let row = Clock { col: d[s] };
-            let depends = e.depends;
-            let noted = row.join(depends).note(o, e.clock);
-            layout::set_depends(t, s, noted);
-        }
-        Engine::Short => {
-            layout::set_depends_at(
-                t,
-                s,
-                o,
-                clock::greater(layout::depends_at(t, s, o), e.clock),
-            );
-        }
-    }
-}
-
 // The entry; if its clock is not 0, the dependency row takes it on.
 pub fn get_step(t: &mut [u8], s: usize, x: usize, engine: Engine) -> Record
     requires { ⌜ GetFits (now t) s x ⌝ }
@@ -343,7 +278,7 @@ pub fn get_step(t: &mut [u8], s: usize, x: usize, engine: Engine) -> Record
     if e.clock == 0 {
         return e;
     }
-    learn_row(t, s, e, engine);
+    rows::learn_row(t, s, e, engine);
     e
 }
 
@@ -365,41 +300,41 @@ pub fn get(t: &mut [u8], s: usize, x: usize, engine: Engine) -> Answer
     }
 }
 
-// The entry of the update's key at s, and the applied count.
-fn deliver_step(t: &mut [u8], s: usize, o: usize, u: Record, c: u16)
+// The entry of the update's key at s, if it is replaced, and the applied count.
+fn deliver_step(t: &mut [u8], s: usize, o: usize, u: Record, c: u16, engine: Engine)
     requires { ⌜ DeliverFits (now t) s o u c ⌝ }
-    ensures { λ _. ⌜ stateOf (now (t .exit)) ≡ deliver ours (stateOf (now (t .entry))) s o .after ⌝ }
+    ensures { λ _. ⌜ stateOf (now (t .exit)) ≡ deliver (engineOf engine) (stateOf (now (t .entry))) s o .after ⌝ }
 {
-    let depends = u.depends;
-    let e = Record {
-        value: u.value,
-        tag: o as u8,
-        zero: 0,
-        clock: c,
-        depends: depends,
-    };
-    layout::set_entry(t, s, layout::wide_byte(u.tag), e);
+    rows::replace(t, s, o, u, c, engine);
     layout::set_applied(t, s, o, c);
 }
 
+// The causes of an update, held against the applied row.
+fn causes(t: &[u8], s: usize, u: Record) -> Compared
+    requires { ⌜ (length (now t) ≡ table .width) × (s < 8) ⌝ }
+    ensures { λ r. ⌜ r ≡ compare (columns (u .depends)) (stateOf (now (t .entry)) .applied s) ⌝ }
+{
+    let a = layout::applied(t, s, s + 1);
+    let row = Clock { col: a[s] };
+    let depends = u.depends;
+    depends.compare(row)
+}
+
 // One delivery attempted, on a sound table and two of its sites: what is left to ask is 9 and 10.
-pub fn attempt(t: &mut [u8], s: usize, o: usize) -> Answer
+pub fn attempt(t: &mut [u8], s: usize, o: usize, engine: Engine) -> Answer
     requires { ⌜ Attempts (now t) s o ⌝ }
-    ensures { λ r. ⌜ (numbersOf r ≡ try ours (stateOf (now (t .entry))) s o .answer) × (stateOf (now (t .exit)) ≡ try ours (stateOf (now (t .entry))) s o .after) ⌝ }
+    ensures { λ r. ⌜ (numbersOf r ≡ try (engineOf engine) (stateOf (now (t .entry))) s o .answer) × (stateOf (now (t .exit)) ≡ try (engineOf engine) (stateOf (now (t .entry))) s o .after) ⌝ }
 {
     let here = layout::applied_at(t, s, o);
     if here == layout::applied_at(t, o, o) {
         return Answer::Refused(Refusal::NoNext);
     }
     let u = layout::update_at(t, o, layout::wide(here) % Table::PLACES);
-    let depends = u.depends;
-    let a = layout::applied(t, s, s + 1);
-    let row = Clock { col: a[s] };
-    let miss = depends.compare(row);
+    let miss = causes(t, s, u);
     match miss {
         Compared::Within => {
             let c = after(here);
-            deliver_step(t, s, o, u, c);
+            deliver_step(t, s, o, u, c, engine);
             Answer::Done {
                 key: u.tag,
                 site: o as u8,
@@ -432,12 +367,12 @@ fn deliver_refusal(t: &[u8], s: usize, o: usize) -> Refusal
     }
 }
 
-pub fn deliver(t: &mut [u8], s: usize, o: usize) -> Answer
-    ensures { λ r. ⌜ Promise (now (t .entry)) (Deliver s o) (served r (now (t .exit))) ⌝ }
+pub fn deliver(t: &mut [u8], s: usize, o: usize, engine: Engine) -> Answer
+    ensures { λ r. ⌜ PromiseBy engine (now (t .entry)) (Deliver s o) (served r (now (t .exit))) ⌝ }
 {
     let why = deliver_refusal(t, s, o);
     match why {
-        Refusal::Nothing => attempt(t, s, o),
+        Refusal::Nothing => attempt(t, s, o, engine),
         _ => Answer::Refused(why),
     }
 }

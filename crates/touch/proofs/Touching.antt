@@ -1,18 +1,20 @@
 -- What the steps of a touch may rely on, where no condition of it holds. Assumes nothing.
-use mathlib.Core.Path.{_≡_, sym, ap, _∙_}
+use mathlib.Core.Path.{_≡_, sym, ap, subst, _∙_}
 use mathlib.Core.List.{List}
 use Prim.Native.Nat.{ℕ, _<_}
 use native.Mathlib.Omega.{arith}
 use lib.ListN.{length}
 use Rattle.layout.specs.State.{State, stateOf, table}
-use Rattle.rules.specs.Engine.{Engine}
 use Rattle.rules.specs.Steps.{learn}
 use Rattle.rules.specs.Refusals.{first}
 use Rattle.rules.specs.Calls.{Touch, asks}
 use Rattle.laws.proofs.Ready.{TouchReady, touch-ready}
 use Rattle.laws.proofs.Touching.{learn-apart}
 use Rattle.laws.proofs.Serving.{asks-clear}
+use Rattle.table.specs.declared.Engine.{Engine}
+use Rattle.table.specs.Answers.{engineOf}
 use Rattle.table.specs.Asked.{GetFits, PutFits}
+use Rattle.table.proofs.Sending.{learn-taken}
 use Rattle.table.proofs.Codes as codes
 
 module _ (t : List ℕ) (s x hour u r : ℕ) (z : first (asks t (Touch s x hour u r)) ≡ 0) where
@@ -26,11 +28,16 @@ module _ (t : List ℕ) (s x hour u r : ℕ) (z : first (asks t (Touch s x hour 
   small = let P = ready .put in (omega (arith, P .site, P .sound .sites), omega (arith, P .key, P .sound .keys))
 
   pub get-fits : GetFits t s x
-  get-fits = let P = ready .put in codes.get-fits t s x size (record { sound = P .sound; site = P .site; key = P .key })
+  get-fits = codes.over-fits t s x size (ready .put)
 
-  -- the get leaves the counts
-  pub put-fits : (E : Engine) (t′ : List ℕ) → length t′ ≡ length t → stateOf t′ ≡ learn E (stateOf t) s x → PutFits t′ s x
-  put-fits E t′ l e =
-      let p = learn-apart E (stateOf t) s x in
-      let same : stateOf t′ .applied s s ≡ stateOf t .applied s s = ap (λ (S : State). S .applied s s) e ∙ ap (λ (S : State). S .applied s s) (p .1) in
-      record { size = l ∙ size; site = small .0; key = small .1; clock = λ n. ready .put .clock (sym same ∙ n) }
+  -- the get leaves the counts, and what it has taken on is taken on
+  pub put-fits : (engine : Engine) (t′ : List ℕ) → length t′ ≡ length t → stateOf t′ ≡ learn (engineOf engine) (stateOf t) s x → PutFits (engineOf engine) t′ s x
+  put-fits engine t′ l e =
+      let same : stateOf t′ .applied s s ≡ stateOf t .applied s s = ap (λ (S : State). S .applied s s) (e ∙ learn-apart (engineOf engine) (stateOf t) s x .1) in
+      record {
+        size = l ∙ size;
+        site = small .0;
+        key = small .1;
+        clock = λ n. ready .put .clock (sym same ∙ n);
+        taken = subst (λ (S : State). engineOf engine .sent (S .depends s) (S .store s x) ≡ S .depends s) (sym e) (learn-taken (stateOf t) s x engine);
+      }

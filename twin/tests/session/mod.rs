@@ -1,7 +1,9 @@
 //! A table, and its calls with their replies read as the five numbers. Each test uses its part.
 #![allow(dead_code)]
 
-use twin::{adopt, cold, deliver, drain, get, look, open, put, short, touch, LIST_BYTES, REPLY_BYTES, TABLE_BYTES};
+use twin::{
+    adopt, cold, deliver, drain, get, long, look, open, put, short, touch, LIST_BYTES, REPLY_BYTES, TABLE_BYTES,
+};
 
 #[derive(Clone)]
 pub struct Session {
@@ -83,6 +85,18 @@ impl Session {
         self.call(|table, reply| short::touch(site, key, now, toucher, tier, table, reply))
     }
 
+    pub fn long_put(&mut self, site: u64, key: u64, value: u32) -> Numbers {
+        self.call(|table, reply| long::put(site, key, value, table, reply))
+    }
+
+    pub fn long_get(&mut self, site: u64, key: u64) -> Numbers {
+        self.call(|table, reply| long::get(site, key, table, reply))
+    }
+
+    pub fn long_deliver(&mut self, site: u64, origin: u64) -> Numbers {
+        self.call(|table, reply| long::deliver(site, origin, table, reply))
+    }
+
     pub fn cold(&mut self, site: u64, now: u64, threshold: u64) -> Numbers {
         let mut list = self.list;
         let answer = self.call(|table, reply| cold(site, now, threshold, table, &mut list, reply));
@@ -96,6 +110,29 @@ impl Session {
         assert!(rest.iter().all(|&byte| byte == 0));
         listed
     }
+}
+
+pub type Clocks = [u16; 8];
+
+fn clocks(session: &Session, at: usize) -> Clocks {
+    std::array::from_fn(|column| {
+        u16::from_be_bytes([session.table[at + 2 * column], session.table[at + 2 * column + 1]])
+    })
+}
+
+/// What a site depends on.
+pub fn row(session: &Session, site: usize) -> Clocks {
+    clocks(session, 132 + 16 * site)
+}
+
+/// The vector of an origin's update, of its first sixteen.
+pub fn sent(session: &Session, origin: usize, clock: usize) -> Clocks {
+    clocks(session, 12_548 + 24 * (16 * origin + clock - 1) + 8)
+}
+
+/// The vector of an entry.
+pub fn stored(session: &Session, site: usize, key: usize) -> Clocks {
+    clocks(session, 260 + 24 * (64 * site + key) + 8)
 }
 
 pub fn refused(code: u32) -> Numbers {

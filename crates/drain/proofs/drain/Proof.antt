@@ -1,10 +1,9 @@
 use mathlib.Core.Path.{refl, sym, ap, _∙_}
 use native.Mathlib.Omega.{arith}
 use Rattle.layout.specs.Ranges.{Bytes}
-use Rattle.rules.specs.Engine.{ours}
 use Rattle.rules.specs.Refusals.{site-refusals}
 use Rattle.rules.specs.Calls.{Drain, refusals, step, asks}
-use Rattle.table.specs.Answers.{codeOf}
+use Rattle.table.specs.Answers.{codeOf, engineOf}
 use Rattle.table.proofs.Codes.{refusing}
 use Rattle.table.proofs.Serves.{serves-refused, serves-step}
 use Rattle.drain.proofs.Draining.{drain-clear}
@@ -27,7 +26,7 @@ returns c =
     let told = c .before .before .before .before .before .before .before in
     let asked = told .before .before in
     let a = asked .before .before .before .args in
-    serves-step ours (a .t .now) (Drain (a .s) (a .budget)) _ (w .last .0) (w .kept .0) (λ i. omega (arith, c .slice-known2 .given i))
+    serves-step (engineOf (a .engine)) (a .t .now) (Drain (a .s) (a .budget)) _ (w .last .0) (w .kept .0) (λ i. omega (arith, c .slice-known2 .given i))
     (sym (asked .site-refusal .ensures) ∙ ap codeOf (told .enum-told .given .1)) (w .ensures .0) (w .ensures .1)
 
 returns-2 : tie.Need-returns-2
@@ -36,7 +35,7 @@ returns-2 c =
     let r = c .before .site-refusal in
     let known = c .before .before .before in
     let a = known .before .args in
-    serves-refused ours (a .t .now) (Drain (a .s) (a .budget)) (r .result) (r .ensures) (refusing (r .result) (c .match .keys2))
+    serves-refused (engineOf (a .engine)) (a .t .now) (Drain (a .s) (a .budget)) (r .result) (r .ensures) (refusing (r .result) (c .match .keys2))
 
 pub drain-spec : {M : Type 1} → statement M
 drain-spec =

@@ -4,22 +4,23 @@ use native.Mathlib.Omega.{arith}
 use lib.ListN.{length}
 use Rattle.rules.specs.Steps.{Numbers}
 use Rattle.rules.specs.Drain.{Drained, drain}
+use Rattle.table.specs.Answers.{engineOf}
 use Rattle.drain.proofs.Draining.{Draining, drain-starts, drain-ended, drain-stopped, attempts, drain-accepted, drain-refused}
 use borrow.Author.Needs.{needs}
 use Rattle.drain.proofs.passes.Statement.{statement}
 use Rattle.drain.proofs.passes.Tie as tie
 
 abbrev Inv-loop : tie.InvT-loop
-Inv-loop t₀ n s budget o₀ delivered₀ deliveries₀ tries₀ t o delivered deliveries tries = Draining t₀ t n s budget o delivered deliveries tries
+Inv-loop t₀ n s budget engine o₀ delivered₀ deliveries₀ tries₀ t o delivered deliveries tries = Draining (engineOf engine) t₀ t n s budget o delivered deliveries tries
 
 abbrev μ-loop : tie.MeasureT-loop
-μ-loop t₀ n s budget o₀ delivered₀ deliveries₀ tries₀ t o delivered deliveries tries = budget - tries
+μ-loop t₀ n s budget engine o₀ delivered₀ deliveries₀ tries₀ t o delivered deliveries tries = budget - tries
 
 loop-holds : tie.Need-loop-holds Inv-loop μ-loop
 loop-holds c =
     let start = c .before .before in
     let a = start .args in
-    drain-starts (a .t .now) (a .n) (a .s) (a .budget) _ _ (start .pre) (c .next-turn .ensures)
+    drain-starts (engineOf (a .engine)) (a .t .now) (a .n) (a .s) (a .budget) _ _ (start .pre) (c .next-turn .ensures)
 
 -- the answer of a drain that has come to its end
 abbrev answered : Drained → Numbers

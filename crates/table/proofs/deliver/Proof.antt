@@ -5,12 +5,11 @@ use lib.Dec.{eqb}
 use Rattle.clock.specs.Map.{any}
 use Rattle.layout.specs.State.{stateOf}
 use Rattle.layout.specs.Ranges.{Bytes}
-use Rattle.rules.specs.Engine.{ours}
 use Rattle.rules.specs.Steps.{Outcome}
 use Rattle.rules.specs.Refusals.{missing, deliver-refusals}
 use Rattle.rules.specs.Calls.{Deliver, refusals, asks}
 use Rattle.laws.proofs.Draining.{try-runs}
-use Rattle.table.specs.Answers.{codeOf}
+use Rattle.table.specs.Answers.{codeOf, engineOf}
 use Rattle.table.specs.Asked.{deliverIn}
 use Rattle.table.proofs.Codes.{first-stop, refusing, deliver-clear}
 use Rattle.table.proofs.Serves.{serves-refused, serves-run}
@@ -31,8 +30,8 @@ returns c =
     let arg = c .before .before .before in
     let known = arg .before .before .before .before .before in
     let a = known .before .args in
-    let r = try-runs ours (stateOf (a .t .now)) (a .s) (a .o) in
-    serves-run ours (a .t .now) (Deliver (a .s) (a .o)) _ (w .last .0) (w .kept .0) (λ i. omega (arith, c .slice-known2 .given i)) (attempt-requires arg (w .lifetimes) .size)
+    let r = try-runs (engineOf (a .engine)) (stateOf (a .t .now)) (a .s) (a .o) in
+    serves-run (engineOf (a .engine)) (a .t .now) (Deliver (a .s) (a .o)) _ (w .last .0) (w .kept .0) (λ i. omega (arith, c .slice-known2 .given i)) (attempt-requires arg (w .lifetimes) .size)
     (λ i. omega (arith, known .slice-known .given i)) (w .ensures .0 ∙ ap (λ (o : Outcome). o .answer) r) (w .ensures .1 ∙ ap (λ (o : Outcome). o .after) r)
 
 returns-2 : tie.Need-returns-2
@@ -43,7 +42,7 @@ returns-2 c =
     let a = known .before .args in
     let S = stateOf (a .t .now) in
     let no-code = refusing (r .result) (c .match .keys2) in
-    serves-refused ours (a .t .now) (Deliver (a .s) (a .o)) (r .result)
+    serves-refused (engineOf (a .engine)) (a .t .now) (Deliver (a .s) (a .o)) (r .result)
     (r .ensures
     ∙ first-stop (deliverIn (a .t .now) (a .s) (a .o)) ((9, eqb (S .applied (a .s) (a .o)) (S .applied (a .o) (a .o))) ∷ (10, any 8 (missing S (a .s) (a .o))) ∷ [])
     (λ z. no-code (r .ensures ∙ z))) no-code

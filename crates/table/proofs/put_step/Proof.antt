@@ -1,7 +1,5 @@
-use mathlib.Core.Path.{ap, _∙_}
-use Prim.Native.Nat.{ℕ, _-_, _%_}
 use Rattle.layout.specs.State.{stateOf}
-use Rattle.layout.proofs.Places.{row-read}
+use Rattle.table.specs.Answers.{engineOf}
 use Rattle.table.proofs.Stores.{next-is, put-stores}
 use borrow.Author.Needs.{needs}
 use Rattle.table.proofs.put_step.Statement.{statement}
@@ -11,22 +9,17 @@ returns : tie.Need-returns
 returns c =
     let left = c .before .before in
     let applied = left .before .before .before .before in
-    let entry = applied .before .before .before .before in
-    let update = entry .before .before .before .before in
-    let zero = update .before .before in
-    let row = zero .before .before in
-    let wide = row .before .before in
-    let after = wide .before in
+    let own = applied .before .before .before .before in
+    let sent = own .before .before .before .before in
+    let after = sent .before .before in
     let start = after .before .before .before .before in
-    let S = stateOf (start .args .t .now) in
-    let s = start .args .s in
-    let ec = next-is S s s (after .after .ensures) (after .before .applied-at .ensures) in
-    let er = row-read s (S .depends) (row .depends .ensures) in (
+    let a = start .args in
+    let S = stateOf (a .t .now) in
+    let ec = next-is S (a .s) (a .s) (after .after .ensures) (after .before .applied-at .ensures) in (
       ec,
-      put-stores S (start .args .engine) (stateOf (update .set-update .last .0)) (stateOf (entry .set-entry .last .0)) (stateOf (applied .set-applied .last .0)) (stateOf (left .leave-row .last .0))
-          s (start .args .x) (start .args .v) (after .after .result) _ _ _
-          (update .set-update .ensures) (entry .set-entry .ensures) (applied .set-applied .ensures) (left .leave-row .ensures)
-          ec (ap (λ (m : ℕ). m % 16) (wide .wide .ensures .0 ∙ ap (λ (m : ℕ). m - 1) ec)) er (zero .zero .ensures),
+      put-stores S (engineOf (a .engine)) (stateOf (sent .send .last .0)) (stateOf (own .store-own .last .0)) (stateOf (applied .set-applied .last .0)) (stateOf (left .leave-row .last .0))
+          (a .s) (a .x) (a .v) (after .after .result)
+          (sent .send .ensures) (own .store-own .ensures) (applied .set-applied .ensures) (left .leave-row .ensures) ec (start .pre .taken),
     )
 
 pub put-step-spec : {M : Type 1} → statement M
@@ -35,17 +28,8 @@ put-step-spec =
     (tie.spec
     (λ c κs. search needs)  -- applied-at-requires
     (λ c κs. search needs)  -- after-requires
-    (λ c. search needs)  -- sub-wide
-    (λ c κs. search needs)  -- wide-requires
-    (λ c. search needs)  -- add-depends
-    (λ c κs. search needs)  -- depends-requires
-    (λ c. search needs)  -- mul-t14
-    (λ c. search needs)  -- array-copy-out-t20
-    (λ c κs. search needs)  -- zero-requires
-    (λ c. search needs)  -- cast-t24
-    (λ c κs. search needs)  -- set-update-requires
-    (λ c. search needs)  -- cast-t24-2
-    (λ c κs. search needs)  -- set-entry-requires
+    (λ c κs. search needs)  -- send-requires
+    (λ c κs. search needs)  -- store-own-requires
     (λ c κs. search needs)  -- set-applied-requires
     (λ c κs. search needs)  -- leave-row-requires
     (λ c. search needs)  -- same-length

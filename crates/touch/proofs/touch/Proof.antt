@@ -35,7 +35,7 @@ put-step-requires c κs =
     let a = c .before .before .before .before .before .before .before .before .before .before .before .args in
     let w = c .before .before .before .before .get-step in
     touching.put-fits (a .t .now) (a .s) (a .x) (a .hour) (a .toucher) (a .tier) (sym (c .before .before .before .before .before .before .before .before .touch-refusal .ensures) ∙ ap codeOf (c .before .before .before .before .before .before .enum-told .given .1))
-    (engineOf (a .engine)) (w .last .0) (w .kept .0) (w .ensures .1)
+    (a .engine) (w .last .0) (w .kept .0) (w .ensures .1)
 
 cast-t20 : tie.Need-cast-t20
 cast-t20 c =
