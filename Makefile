@@ -5,6 +5,7 @@
 # make story: a backup scan seen from far away, here and in a plain replica
 # make policy: a month of a policy that moves cold files, here, with scans that make them look fresh, and with gets for looks
 # make tiers: two sites that disagree on a file's tier for good, before request (e) of document 02 and now
+# make closed: a branch that stops applying, and the puts of the others before and after it is retired
 # make play FILE=x.sched: a schedule written as text, beside its answers
 # make draw FILE=x.sched: the same as a picture, build/x.svg
 # make table FILE=x.sched: the table that a schedule leaves, as bytes, build/x.table
@@ -13,7 +14,7 @@
 # make bench: the library against the second program, in turns
 # make lists: what an update carries with our lists and with short ones, in a month of eight sites; drawn as build/lists.svg
 # make times: the proving seconds of each crate, from nothing
-.PHONY: help test run lib install story policy tiers play draw table waits soak bench lists times
+.PHONY: help test run lib install story policy tiers closed play draw table waits soak bench lists times
 
 PREFIX ?= /usr/local
 SECONDS ?= 600
@@ -63,6 +64,10 @@ tiers: lib
 	@$(CC) $(STRICT) $(CFLAGS) -Ibuild examples/two_tiers.c $(LIBRARY) -o build/two_tiers
 	@build/two_tiers
 
+closed: lib
+	@$(CC) $(STRICT) $(CFLAGS) -Ibuild examples/closed_branch.c $(LIBRARY) -o build/closed_branch
+	@build/closed_branch
+
 play: target/bin/run_schedule
 	@tools/sched play "$(FILE)"
 
@@ -74,8 +79,7 @@ build/table build/waits: build/%: tools/%.c lib
 	@$(CC) $(STRICT) $(CFLAGS) -Ibuild $< $(LIBRARY) -o $@
 
 table: build/table
-	@tools/sched encode "$(FILE)" >build/table.schedule
-	@tools/sched decode <build/table.schedule >build/table.text
+	@tools/sched plain "$(FILE)" >build/table.text
 	@build/table <build/table.text >build/$(basename $(notdir $(FILE))).table
 
 waits:

@@ -111,6 +111,7 @@ static struct scene alone(enum kind kind, enum filling filling, unsigned sites, 
             [DRAIN] = {DRAIN, {at % sites, FC_ENOUGH}},
             [TOUCH] = {TOUCH, {0, at % keys, at, at % 4, 1}},
             [COLD] = {COLD, {at % sites, at * 100, 24}},
+            [RETIRE] = {RETIRE, {at % sites}}, /* some are refused: one site stays live */
         };
         scene.calls[at] = kinds[namesake(kind)];
         scene.calls[at].kind = kind;

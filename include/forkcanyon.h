@@ -5,11 +5,14 @@
  *
  * One buffer of FC_TABLE_BYTES holds the replicas of 1 to 8 sites over 1 to 64 keys, how many updates
  * of each origin each site has applied, what each site depends on, and the updates still under way.
- * A put at a site is stored there at once and becomes an update for every other site. A delivery
+ * A put at a site is stored there at once and becomes an update for every other live site. A delivery
  * carries the next update of one origin to one site, and is accepted only when the site has applied
  * everything that update depends on: all that its origin had put, got or adopted before, and the put
  * that it overwrites. So whoever reads a value at a site also finds there what the writer of that value
  * had put, got, adopted or overwritten before it, or what has taken the place of that.
+ *
+ * A site that has stopped for good can be retired, and then nobody waits for it; see RETIRED SITES below.
+ * The sites that are not retired are the live ones.
  *
  * The library keeps nothing between calls: no heap, no globals, no files, no clock. What there is to
  * remember is in the table, and the table may be copied, moved or saved between calls like any bytes.
@@ -43,9 +46,24 @@
  *
  * So what came last decides nothing. In a table that was opened and then changed only by these calls, the
  * fc_short_ ones left out, a site holds of each key the highest of the puts that it has applied; and when
- * every site has applied every put, all stores are equal, in every byte of every entry. fc_drain() of each
- * site, once, with FC_ENOUGH, brings that about. Ranks do not know which of two puts is the better: where
- * that matters, look at the key when all has come, and put again.
+ * every live site has applied every put, their stores are equal, in every byte of every entry. fc_drain() of
+ * each live site, once, with FC_ENOUGH, brings that about. Ranks do not know which of two puts is the better:
+ * where that matters, look at the key when all has come, and put again.
+ *
+ * RETIRED SITES
+ *
+ * An update is kept until every live site has applied it, and there is room for FC_PLACES of each origin. So a
+ * site that stops applying, because its branch was closed or its link will not come back, soon has the puts of
+ * all others answer FC_ROOM. fc_retire() takes it out. From then on:
+ * - Nobody waits for it. It no longer counts for FC_ROOM, and an update that it alone lacks is kept no longer.
+ * - What it has put stays for the others. Its updates that a live site lacks are delivered as any others, in
+ *   their order and after their causes, and are causes as any others; no put that was accepted is lost.
+ * - It takes no more part. Every call at it is refused, a delivery or a drain to it too: with FC_RETIRED, where
+ *   nothing that is asked before holds. So fc_look() of any key there tells whether it is retired. What it holds
+ *   and has applied stays in the table as it is.
+ * - It cannot be undone. What it alone lacked may be gone with the next put, so it could never catch up. Its
+ *   number is not given to another: a branch that opens anew needs a new table.
+ * One site stays live: the last one answers FC_LAST.
  *
  * WHAT THE CALLER OWES
  *
@@ -91,29 +109,31 @@ extern "C" {
 /*
  * The codes, by number. They are asked in this order, each call leaving out those it has not:
  *
- *     FC_UNUSED, FC_RANGE, FC_SIZE, FC_UNSOUND, FC_COUNTS, FC_SITE, FC_SAME, FC_KEY, FC_CHANGED,
- *     FC_RECORD, FC_SPENT, FC_ROOM, FC_NONE, FC_WAITS, FC_BUDGET
+ *     FC_UNUSED, FC_RANGE, FC_SIZE, FC_UNSOUND, FC_COUNTS, FC_SITE, FC_SAME, FC_RETIRED, FC_LAST,
+ *     FC_KEY, FC_CHANGED, FC_RECORD, FC_SPENT, FC_ROOM, FC_NONE, FC_WAITS, FC_BUDGET
  *
  * applied(s, o) is how many updates of origin o site s has applied; applied(s, s) is how many puts s
  * has made. n and k are the table's counts.
  */
 enum fc_code {
-    FC_OK = 0,      /* accepted */
-    FC_SIZE = 1,    /* table_len is not FC_TABLE_BYTES, or reply_len is not FC_REPLY_BYTES */
-    FC_UNSOUND = 2, /* the table is not sound, see fc_open(); not asked by fc_open */
-    FC_COUNTS = 3,  /* fc_open: sites is not 1 to 8, or keys is not 1 to 64 */
-    FC_SITE = 4,    /* a named site or origin is not below n */
-    FC_SAME = 5,    /* fc_deliver: site and origin are the same */
-    FC_KEY = 6,     /* key is not below k */
-    FC_SPENT = 7,   /* a put or touch: applied(site, site) is 65,535; the site can put no more */
-    FC_ROOM = 8,    /* a put or touch: some site has applied 16 fewer of this site's puts than it has made */
-    FC_NONE = 9,    /* fc_deliver: applied(site, origin) equals applied(origin, origin) */
-    FC_WAITS = 10,  /* fc_deliver: the site lacks causes of the update; the reply names the sites they are of */
-    FC_BUDGET = 11, /* fc_drain: the budget was spent with a try due; what was delivered stays */
-    FC_UNUSED = 12, /* only in a schedule: a step with a field set that it does not use */
-    FC_RECORD = 13, /* fc_touch, by the scan or by migration: the key has no touch record, so no hour to keep */
-    FC_RANGE = 14,  /* fc_cold, fc_touch: a number of the policy's, or list_len, is out of range */
-    FC_CHANGED = 15 /* fc_adopt: the site does not hold the named put under key, or no longer; look again */
+    FC_OK = 0,       /* accepted */
+    FC_SIZE = 1,     /* table_len is not FC_TABLE_BYTES, or reply_len is not FC_REPLY_BYTES */
+    FC_UNSOUND = 2,  /* the table is not sound, see fc_open(); not asked by fc_open */
+    FC_COUNTS = 3,   /* fc_open: sites is not 1 to 8, or keys is not 1 to 64 */
+    FC_SITE = 4,     /* a named site or origin is not below n */
+    FC_SAME = 5,     /* fc_deliver: site and origin are the same */
+    FC_KEY = 6,      /* key is not below k */
+    FC_SPENT = 7,    /* a put or touch: applied(site, site) is 65,535; the site can put no more */
+    FC_ROOM = 8,     /* a put or touch: some live site has applied 16 fewer of this site's puts than it has made */
+    FC_NONE = 9,     /* fc_deliver: applied(site, origin) equals applied(origin, origin) */
+    FC_WAITS = 10,   /* fc_deliver: the site lacks causes of the update; the reply names the sites they are of */
+    FC_BUDGET = 11,  /* fc_drain: the budget was spent with a try due; what was delivered stays */
+    FC_UNUSED = 12,  /* only in a schedule: a step with a field set that it does not use */
+    FC_RECORD = 13,  /* fc_touch, by the scan or by migration: the key has no touch record, so no hour to keep */
+    FC_RANGE = 14,   /* fc_cold, fc_touch: a number of the policy's, or list_len, is out of range */
+    FC_CHANGED = 15, /* fc_adopt: the site does not hold the named put under key, or no longer; look again */
+    FC_RETIRED = 16, /* the call's site is retired; the origin that it names may be so */
+    FC_LAST = 17     /* fc_retire: no other site is live */
 };
 
 /*
@@ -122,13 +142,15 @@ enum fc_code {
  * FC_OK: the other numbers of the reply are 0. Refusals: FC_SIZE, FC_COUNTS.
  *
  * A table that was opened and then changed only by these calls is sound. Every call but fc_open asks
- * for these facts before anything else of the table, so a damaged table is refused with FC_UNSOUND if one of them fails:
- * - n is 1 to 8, k is 1 to 64, and bytes 2 and 3 are 0;
- * - for sites s and o below n, applied(s, o) is at most applied(o, o), and at most 16 below it;
+ * for these facts before anything else of the table, so a damaged table is refused with FC_UNSOUND if
+ * one of them fails:
+ * - n is 1 to 8, k is 1 to 64, byte 2 has bit m (worth 2 to the power m) for each retired site m, all of
+ *   them below n and not all n, and byte 3 is 0;
+ * - for sites s and o below n, applied(s, o) is at most applied(o, o), and if s is live at most 16 below it;
  * - each entry of a site s below n and a key below k is all 0 (never written), or names an origin
  *   below n and a clock from 1 to applied(s, origin);
- * - each update that some site below n has not applied yet stands in its place, with its clock and
- *   a key below k.
+ * - each update that some live site has not applied yet stands in its place, with its clock and a key
+ *   below k.
  * Every accepted call on a sound table leaves a sound one, and so does a drain that answers FC_BUDGET.
  */
 uint32_t fc_open(uint64_t sites, uint64_t keys,
@@ -141,7 +163,7 @@ uint32_t fc_open(uint64_t sites, uint64_t keys,
  * FC_OK: the reply holds key, site, the put's clock (1 for a site's first put, then 2, ..) and value.
  * The update depends on all that the site had put, got or adopted before, on the put that it overwrites,
  * and on all that one depended on.
- * Refusals: FC_SIZE, FC_UNSOUND, FC_SITE, FC_KEY, FC_SPENT, FC_ROOM.
+ * Refusals: FC_SIZE, FC_UNSOUND, FC_SITE, FC_RETIRED, FC_KEY, FC_SPENT, FC_ROOM.
  */
 uint32_t fc_put(uint64_t site, uint64_t key, uint32_t value,
                 uint8_t *table, size_t table_len, uint8_t *reply, size_t reply_len);
@@ -154,7 +176,7 @@ uint32_t fc_put(uint64_t site, uint64_t key, uint32_t value,
  * FC_OK: the reply holds key, and the origin (as site), clock and value of the put it reads. For a
  * key never written at this site these are 0 and the table keeps all bytes; clock 0 is the mark,
  * since 0 is also a site.
- * Refusals: FC_SIZE, FC_UNSOUND, FC_SITE, FC_KEY.
+ * Refusals: FC_SIZE, FC_UNSOUND, FC_SITE, FC_RETIRED, FC_KEY.
  */
 uint32_t fc_get(uint64_t site, uint64_t key,
                 uint8_t *table, size_t table_len, uint8_t *reply, size_t reply_len);
@@ -164,7 +186,7 @@ uint32_t fc_get(uint64_t site, uint64_t key,
  * read, unless it is adopted or put over.
  *
  * FC_OK: the reply is that of fc_get.
- * Refusals: FC_SIZE, FC_UNSOUND, FC_SITE, FC_KEY.
+ * Refusals: FC_SIZE, FC_UNSOUND, FC_SITE, FC_RETIRED, FC_KEY.
  *
  * Get what you act on. To choose among many keys, look at all of them and adopt those that the choice
  * rests on, before the put that comes of it: after 64 gets every put of the site waits, at every other
@@ -183,13 +205,14 @@ uint32_t fc_look(uint64_t site, uint64_t key,
  * adopting these keeps all bytes of the table.
  * FC_CHANGED: the site holds another put under key, or none. A put, a touch, a delivery or a drain
  * has come between, or no entry can have that clock. Look again, and choose by what is there now.
- * Refusals: FC_SIZE, FC_UNSOUND, FC_SITE (of site or origin), FC_KEY, FC_CHANGED.
+ * Refusals: FC_SIZE, FC_UNSOUND, FC_SITE (of site or origin), FC_RETIRED (of site), FC_KEY, FC_CHANGED.
  */
 uint32_t fc_adopt(uint64_t site, uint64_t key, uint64_t origin, uint64_t clock,
                   uint8_t *table, size_t table_len, uint8_t *reply, size_t reply_len);
 
 /*
- * Applies at site the next update of origin, the one with clock applied(site, origin) + 1.
+ * Applies at site the next update of origin, the one with clock applied(site, origin) + 1. The origin may be
+ * retired.
  *
  * FC_OK: the reply holds the update's key, origin (as site), clock and value, and the site has applied
  * it. The site now holds it under that key, or still what it held, if that is the higher: see ONE WINNER
@@ -200,11 +223,11 @@ uint32_t fc_adopt(uint64_t site, uint64_t key, uint64_t origin, uint64_t clock,
  * reply's site and clock name the lowest of them, and the clock up to which its updates must be applied
  * first. Deliver from each site that is named: fc_drain(), or all their links at once. That can
  * always be done in a table that was opened and then changed only by these calls. In any other one,
- * sound as it may be, a named site can be at or above n: then nothing will ever bring what the
- * update waits for, and its origin's later updates wait behind it until FC_ROOM stops the puts
- * there. Go back to a copy from before the damage, or open a new table and put into it what fc_look
- * still reads in this one.
- * Refusals: FC_SIZE, FC_UNSOUND, FC_SITE, FC_SAME, FC_NONE, FC_WAITS.
+ * sound as it may be, a named site can be at or above n, or retired with fewer puts than that: then
+ * nothing will ever bring what the update waits for, and its origin's later updates wait behind it
+ * until FC_ROOM stops the puts there. Go back to a copy from before the damage, or open a new table
+ * and put into it what fc_look still reads in this one.
+ * Refusals: FC_SIZE, FC_UNSOUND, FC_SITE, FC_SAME, FC_RETIRED (of site), FC_NONE, FC_WAITS.
  */
 uint32_t fc_deliver(uint64_t site, uint64_t origin,
                     uint8_t *table, size_t table_len, uint8_t *reply, size_t reply_len);
@@ -216,12 +239,22 @@ uint32_t fc_deliver(uint64_t site, uint64_t origin,
  *
  * FC_OK: the reply holds the deliveries made (as clock) and the tries made (as value). In a table
  * that was opened and then changed only by these calls, the fc_short_ ones left out, the site has now
- * applied every accepted put; and when every site has, all stores are equal.
+ * applied every accepted put, those of retired sites too; and when every live site has, their stores are equal.
  * FC_BUDGET: the same two numbers, as far as it came; what was delivered stays.
- * Refusals: FC_SIZE, FC_UNSOUND, FC_SITE, FC_BUDGET. FC_ENOUGH is always enough.
+ * Refusals: FC_SIZE, FC_UNSOUND, FC_SITE, FC_RETIRED, FC_BUDGET. FC_ENOUGH is always enough.
  */
 uint32_t fc_drain(uint64_t site, uint64_t budget,
                   uint8_t *table, size_t table_len, uint8_t *reply, size_t reply_len);
+
+/*
+ * Retires site, for good: see RETIRED SITES above. Byte 2 of the table gets its bit, and no other byte changes.
+ *
+ * FC_OK: the other numbers of the reply are 0.
+ * FC_RETIRED: it is retired already. FC_LAST: it is the last live site.
+ * Refusals: FC_SIZE, FC_UNSOUND, FC_SITE, FC_RETIRED, FC_LAST.
+ */
+uint32_t fc_retire(uint64_t site,
+                   uint8_t *table, size_t table_len, uint8_t *reply, size_t reply_len);
 
 /*
  * TOUCH RECORDS
@@ -253,10 +286,10 @@ enum fc_touched_by {
  * FC_RECORD: the toucher is FC_BY_SCAN or FC_BY_MIGRATION, and the key was never written at this site
  * or its value is malformed.
  * FC_RANGE: toucher or tier is above 3, or now is above 65,535.
- * Refusals: FC_RANGE, FC_SIZE, FC_UNSOUND, FC_SITE, FC_KEY, FC_RECORD, FC_SPENT, FC_ROOM.
+ * Refusals: FC_RANGE, FC_SIZE, FC_UNSOUND, FC_SITE, FC_RETIRED, FC_KEY, FC_RECORD, FC_SPENT, FC_ROOM.
  *
- * As with any put, where two sites write one key and neither has heard of the other, all sites end with
- * the same one of the two, even if its hour is the older: see ONE WINNER above. If a key is touched at one
+ * As with any put, where two sites write one key and neither has heard of the other, all live sites end
+ * with the same one of the two, even if its hour is the older: see ONE WINNER above. If a key is touched at one
  * site alone, every site has the newest record of it that it has heard of.
  */
 uint32_t fc_touch(uint64_t site, uint64_t key, uint64_t now, uint64_t toucher, uint64_t tier,
@@ -270,7 +303,7 @@ uint32_t fc_touch(uint64_t site, uint64_t key, uint64_t now, uint64_t toucher, u
  * FC_OK: the reply holds how many keys are listed (as key), how many have a clock ahead (as site) and
  * how many a malformed value (as clock); no key counts twice. Value is 0.
  * FC_RANGE: threshold is not 1 to 32,767, now is above 65,535, or list_len is not FC_LIST_BYTES.
- * Refusals: FC_RANGE, FC_SIZE, FC_UNSOUND, FC_SITE; the list then keeps its bytes.
+ * Refusals: FC_RANGE, FC_SIZE, FC_UNSOUND, FC_SITE, FC_RETIRED; the list then keeps its bytes.
  *
  * It looks at every key, as fc_look does, and changes no byte of the table: later puts of the site do
  * not depend on what it has read. fc_touch gets the key that it touches; adopt what else you act on.
@@ -321,9 +354,9 @@ static inline unsigned fc_tier(uint32_t value)
  * each ends with the other's put, and they disagree for good, though all has been delivered.
  *
  * Each has the arguments and the refusals of its namesake, and answers in the same form. fc_open opens the
- * table for both kinds of calls; fc_look and fc_cold change nothing and serve both. Beside FC_WAITS the
- * reply's value, site and clock speak of the immediate causes alone. What these wait for in their turn is
- * told when they are delivered.
+ * table for both kinds of calls; fc_look, fc_cold and fc_retire serve both. Beside FC_WAITS the reply's value,
+ * site and clock speak of the immediate causes alone. What these wait for in their turn is told when they are
+ * delivered.
  *
  * Which to choose: short lists where what an update carries counts, since few of its eight clocks are not 0,
  * and where each key is written at one site, or a disagreement does no harm. Else the calls above; also where
@@ -349,28 +382,28 @@ static inline unsigned fc_tier(uint32_t value)
 /*
  * As fc_put, but it takes on nothing of what it overwrites. The update depends on what the site's list has;
  * the list is then this put alone.
- * Refusals: FC_SIZE, FC_UNSOUND, FC_SITE, FC_KEY, FC_SPENT, FC_ROOM.
+ * Refusals: FC_SIZE, FC_UNSOUND, FC_SITE, FC_RETIRED, FC_KEY, FC_SPENT, FC_ROOM.
  */
 uint32_t fc_short_put(uint64_t site, uint64_t key, uint32_t value,
                       uint8_t *table, size_t table_len, uint8_t *reply, size_t reply_len);
 
 /*
  * As fc_get. The put that was read joins the site's list, and nothing of what that one depended on.
- * Refusals: FC_SIZE, FC_UNSOUND, FC_SITE, FC_KEY.
+ * Refusals: FC_SIZE, FC_UNSOUND, FC_SITE, FC_RETIRED, FC_KEY.
  */
 uint32_t fc_short_get(uint64_t site, uint64_t key,
                       uint8_t *table, size_t table_len, uint8_t *reply, size_t reply_len);
 
 /*
  * As fc_adopt, with the dependence that fc_short_get takes on.
- * Refusals: FC_SIZE, FC_UNSOUND, FC_SITE (of site or origin), FC_KEY, FC_CHANGED.
+ * Refusals: FC_SIZE, FC_UNSOUND, FC_SITE (of site or origin), FC_RETIRED (of site), FC_KEY, FC_CHANGED.
  */
 uint32_t fc_short_adopt(uint64_t site, uint64_t key, uint64_t origin, uint64_t clock,
                         uint8_t *table, size_t table_len, uint8_t *reply, size_t reply_len);
 
 /*
  * As fc_touch; the table is as after fc_short_get and fc_short_put.
- * Refusals: FC_RANGE, FC_SIZE, FC_UNSOUND, FC_SITE, FC_KEY, FC_RECORD, FC_SPENT, FC_ROOM.
+ * Refusals: FC_RANGE, FC_SIZE, FC_UNSOUND, FC_SITE, FC_RETIRED, FC_KEY, FC_RECORD, FC_SPENT, FC_ROOM.
  */
 uint32_t fc_short_touch(uint64_t site, uint64_t key, uint64_t now, uint64_t toucher, uint64_t tier,
                         uint8_t *table, size_t table_len, uint8_t *reply, size_t reply_len);
@@ -379,15 +412,15 @@ uint32_t fc_short_touch(uint64_t site, uint64_t key, uint64_t now, uint64_t touc
  * As fc_deliver, but the site then holds the update, whatever it held under that key. FC_WAITS: the reply's
  * value says the sites of which an immediate cause is missing, its site and clock the lowest of them and up
  * to where.
- * Refusals: FC_SIZE, FC_UNSOUND, FC_SITE, FC_SAME, FC_NONE, FC_WAITS.
+ * Refusals: FC_SIZE, FC_UNSOUND, FC_SITE, FC_SAME, FC_RETIRED (of site), FC_NONE, FC_WAITS.
  */
 uint32_t fc_short_deliver(uint64_t site, uint64_t origin,
                           uint8_t *table, size_t table_len, uint8_t *reply, size_t reply_len);
 
 /*
  * As fc_drain: the same deliveries and the same tries, each delivery as fc_short_deliver makes it. When every
- * site has applied every put, stores can differ all the same.
- * Refusals: FC_SIZE, FC_UNSOUND, FC_SITE, FC_BUDGET. FC_ENOUGH is always enough.
+ * live site has applied every put, stores can differ all the same.
+ * Refusals: FC_SIZE, FC_UNSOUND, FC_SITE, FC_RETIRED, FC_BUDGET. FC_ENOUGH is always enough.
  */
 uint32_t fc_short_drain(uint64_t site, uint64_t budget,
                         uint8_t *table, size_t table_len, uint8_t *reply, size_t reply_len);

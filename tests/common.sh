@@ -45,3 +45,14 @@ need_tool() {
     { apt-get update -q && apt-get install -y -q "$1"; } >/dev/null 2>&1 ||
         die "there is no $1, and it could not be installed"
 }
+
+# python_tests FILE...: each of them has tests, and they pass.
+python_tests() {
+    local file
+    mkdir -p build
+    for file; do
+        echo "-- $file"
+        { python3 "$file" 2>&1 | tee build/python.log; } || die "$file has failed"
+        grep -qE '^Ran [1-9][0-9]* test' build/python.log || die "$file has no test"
+    done
+}

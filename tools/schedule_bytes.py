@@ -9,6 +9,7 @@ USES = {
     "get": ("site", "key"),
     "deliver": ("site", "origin"),
     "drain": ("site",),
+    "retire": ("site",),  # no step of a schedule: it has no bytes
 }
 WIDTHS = {"site": 3, "origin": 3, "key": 8, "value": 32}
 HEADER_BYTES = 2

@@ -9,7 +9,7 @@ MARK = 7  # the radius of a mark: arrows end at its edge
 
 
 class Picture:
-    def __init__(self, sites, steps):
+    def __init__(self, sites, steps, retires):
         self.width = LEFT + COLUMN * max(steps, 1)
         self.height = TOP + ROW * (sites - 1) + BOTTOM + 34
         self.below, self.above = [], []
@@ -17,7 +17,7 @@ class Picture:
             y = self.y(site)
             self.line(LEFT - 20, y, self.width - 12, y, COLOURS[site], 1)
             self.text(14, y + 5, f"site {site}", COLOURS[site], anchor="start", weight="bold")
-        self.legend(TOP + ROW * (sites - 1) + BOTTOM + 12)
+        self.legend(TOP + ROW * (sites - 1) + BOTTOM + 12, retires)
 
     @staticmethod
     def x(column):
@@ -85,6 +85,14 @@ class Picture:
         self.above.append(f'<path d="M{x} {y - r}L{x + r} {y}L{x} {y + r}L{x - r} {y}Z" fill="{COLOURS[site]}"/>')
         self.labels_aside(site, column, words, origins)
 
+    def retirement(self, site, column):
+        """A bar, behind which the site's line is dotted."""
+        x, y = self.x(column), self.y(site)
+        self.line(x, y, self.width - 12, y, "white", 3)
+        self.line(x, y, self.width - 12, y, COLOURS[site], 1, ' stroke-dasharray="1 5"')
+        self.above.append(f'<rect x="{x - 2}" y="{y - 11}" width="4" height="22" fill="{COLOURS[site]}"/>')
+        self.text(x, y - 18, "retired")
+
     def refusal(self, site, column, what, why):
         self.cross(site, column, PALE)
         self.labels(site, column, what, why, PALE)
@@ -116,9 +124,9 @@ class Picture:
         self.cross(site, column, RED)
         self.labels_aside(site, column, why, [origin, *(cause for cause, _ in causes)], RED)
 
-    def legend(self, y):
+    def legend(self, y, retires):
         marks = ("● put key = value, named site:clock", "○ get", "■ delivery", "◆ drain", "✕ refused")
-        words = "\u2003".join((*marks, "- - a put that it waits for"))
+        words = "\u2003".join((*marks, "- - a put that it waits for", *["┃ retired"] * retires))
         self.text(14, y, words, "#555555", anchor="start", size=12)
 
     def svg(self):

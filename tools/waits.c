@@ -67,8 +67,9 @@ static struct link state_of(const struct table *table, unsigned site, unsigned o
 
 static void write_words(char *words, const struct link *link)
 {
-    if (link->answer.code != FC_WAITS)
-        strcpy(words, link->answer.code == FC_OK ? "ready" : "-");
+    uint8_t code = link->answer.code;
+    if (code != FC_WAITS)
+        strcpy(words, code == FC_OK ? "ready" : code == FC_RETIRED ? "retired" : "-");
     for (unsigned site = 0; site < FC_SITES; site++) {
         const char *space = site == link->answer.site ? "" : " ";
         if (fc_waits_for(link->answer, site) && link->clock[site] == 0)
@@ -90,7 +91,7 @@ static void print_grid(const struct table *table)
 {
     static char words[FC_SITES][FC_SITES][CELL];
     unsigned sites = sites_of(table);
-    int width[FC_SITES] = {0}, unknown = 0, strange = 0;
+    int width[FC_SITES] = {0}, unknown = 0, strange = 0, retired = 0;
     for (unsigned origin = 0; origin < sites; origin++) {
         width[origin] = (int)strlen("from 0");
         for (unsigned site = 0; site < sites; site++) {
@@ -98,6 +99,7 @@ static void print_grid(const struct table *table)
                 continue;
             struct link link = state_of(table, site, origin);
             write_words(words[site][origin], &link);
+            retired = retired || link.answer.code == FC_RETIRED;
             int length = (int)strlen(words[site][origin]);
             width[origin] = length > width[origin] ? length : width[origin];
             for (unsigned named = 0; named < FC_SITES; named++) {
@@ -115,6 +117,8 @@ static void print_grid(const struct table *table)
             printf("  %-*s", origin + 1 < sites ? width[origin] : 0, words[site][origin]);
     }
     puts("\n- nothing to deliver; ready; or site:clock, each put that the link's next one waits for");
+    if (retired)
+        puts("retired: nothing is delivered there any more; what it has put is still delivered to the others");
     if (unknown)
         puts("? a clock that no call tells, since nothing can be delivered from that site now");
     if (strange)

@@ -62,6 +62,27 @@ uint32_t __wrap_fc_short_put(uint64_t site, uint64_t key, uint32_t value, uint8_
     return code;
 }
 
+#elif defined WRONG_ROOM
+
+uint32_t __real_fc_short_put(uint64_t, uint64_t, uint32_t, uint8_t *, size_t, uint8_t *, size_t);
+uint32_t __wrap_fc_short_put(uint64_t, uint64_t, uint32_t, uint8_t *, size_t, uint8_t *, size_t);
+
+/* A put that a retired site still holds up. */
+uint32_t __wrap_fc_short_put(uint64_t site, uint64_t key, uint32_t value, uint8_t *table, size_t table_len,
+                             uint8_t *reply, size_t reply_len)
+{
+    uint8_t before[FC_TABLE_BYTES];
+    memcpy(before, table, table_len);
+    uint32_t code = __real_fc_short_put(site, key, value, table, table_len, reply, reply_len);
+    for (size_t other = 0; code == FC_OK && other < before[0]; other++)
+        if (clock_at(before, applied_at(other, site)) + FC_PLACES == clock_at(before, applied_at(site, site))) {
+            memcpy(table, before, table_len);
+            memset(reply, 0, reply_len);
+            code = reply[0] = FC_ROOM;
+        }
+    return code;
+}
+
 #elif defined WRONG_TOUCH
 
 uint32_t __real_fc_short_touch(uint64_t, uint64_t, uint64_t, uint64_t, uint64_t, uint8_t *, size_t, uint8_t *, size_t);

@@ -25,6 +25,16 @@ static unsigned some_count(struct rng *rng)
     }
 }
 
+/* None, some or all but one. */
+static uint8_t some_retired(struct rng *rng, size_t sites)
+{
+    unsigned all = (1u << sites) - 1, spared = 1u << rng_below(rng, sites);
+    if (rng_chance(rng, 50))
+        return 0;
+    return (uint8_t)((rng_chance(rng, 20) ? all : (unsigned)rng_bits(rng) & all) & ~spared);
+}
+
+/* What a retired site has applied may be anything up to what the origin has put. */
 static void set_applied(struct rng *rng, uint8_t *table, size_t sites)
 {
     unsigned calm = (unsigned)rng_below(rng, 101);
@@ -34,6 +44,8 @@ static void set_applied(struct rng *rng, uint8_t *table, size_t sites)
             unsigned lag = rng_chance(rng, calm)  ? (unsigned)rng_below(rng, 3)
                            : rng_chance(rng, 20) ? FC_PLACES
                                                  : (unsigned)rng_below(rng, FC_PLACES + 1);
+            if (is_retired(table, site) && rng_chance(rng, 50))
+                lag = (unsigned)rng_below(rng, own + 1);
             if (site == origin)
                 lag = 0;
             set_clock(table, applied_at(site, origin), lag > own ? 0 : own - lag);
@@ -82,7 +94,7 @@ static void set_updates(struct rng *rng, uint8_t *table, size_t sites, size_t ke
         unsigned own = clock_at(table, applied_at(origin, origin)), least = own;
         for (size_t site = 0; site < sites; site++) {
             unsigned applied = clock_at(table, applied_at(site, origin));
-            least = applied < least ? applied : least;
+            least = applied < least && !is_retired(table, site) ? applied : least;
         }
         for (unsigned clock = least + 1; clock <= own; clock++) {
             size_t at = update_at(origin, clock);
@@ -103,7 +115,8 @@ void make_sound_table(struct rng *rng, uint8_t *table)
         memset(table, 0, FC_TABLE_BYTES);
     table[0] = (uint8_t)sites;
     table[1] = (uint8_t)keys;
-    table[2] = table[3] = 0;
+    table[RETIRED] = some_retired(rng, sites);
+    table[3] = 0;
     set_applied(rng, table, sites);
     set_entries(rng, table, sites, keys);
     set_updates(rng, table, sites, keys);

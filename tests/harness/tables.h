@@ -6,6 +6,7 @@
 #include "rng.h"
 
 enum {
+    RETIRED = 2,
     APPLIED = 4,
     DEPENDS = 132,
     STORE = 260,
@@ -16,6 +17,12 @@ enum {
     RECORD_VECTOR = 8,
     VECTOR = 2 * FC_SITES
 };
+
+/* Of a site below 8. */
+static inline bool is_retired(const uint8_t *table, size_t site)
+{
+    return (table[RETIRED] >> site & 1) != 0;
+}
 
 static inline size_t applied_at(size_t site, size_t origin)
 {
@@ -53,7 +60,7 @@ static inline uint32_t value_at(const uint8_t *table, size_t at)
     return (uint32_t)clock_at(table, at) << 16 | clock_at(table, at + 2);
 }
 
-/* A sound table that a run from opening need not reach: any lag, any clock, garbage where it is free. */
+/* A sound table that a run from opening need not reach: any lag, any clock, any retired sites, garbage where it is free. */
 void make_sound_table(struct rng *rng, uint8_t *table);
 
 /* Changes a byte or a few, mostly where soundness looks; the table may still be sound. */

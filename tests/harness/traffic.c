@@ -53,6 +53,7 @@ struct traffic some_traffic(struct rng *rng, unsigned sites, unsigned keys, unsi
     traffic.weights[SHORT_DELIVER] += 4;
     traffic.weights[DRAIN] = (unsigned)rng_below(rng, 2);
     traffic.weights[SHORT_DRAIN] = (unsigned)rng_below(rng, 2);
+    traffic.weights[RETIRE] = (unsigned)rng_below(rng, 2);
     traffic.slow = rng_bits(rng) & rng_bits(rng);
     return traffic;
 }
@@ -62,6 +63,19 @@ void keep_one_engine(struct traffic *traffic, bool short_lists)
     for (enum kind kind = OPEN; kind < KINDS; kind++)
         if (short_lists ? with_short_lists(kind) != kind : is_short(kind))
             traffic->weights[kind] = 0;
+}
+
+/* Mostly a live site, as far as the table is known. */
+static uint64_t acting_site(struct rng *rng, const struct traffic *traffic)
+{
+    uint64_t site = name(rng, traffic, traffic->sites);
+    for (int tries = 0; tries < 8; tries++) {
+        bool retired = traffic->table != NULL && site < FC_SITES && is_retired(traffic->table, site);
+        if (!retired || rng_chance(rng, 5))
+            break;
+        site = name(rng, traffic, traffic->sites);
+    }
+    return site;
 }
 
 static uint64_t origin_for(struct rng *rng, const struct traffic *traffic, uint64_t site)
@@ -125,10 +139,12 @@ struct call some_call(struct rng *rng, const struct traffic *traffic)
         left -= traffic->weights[call.kind++];
 
     uint64_t *number = call.numbers;
-    number[0] = call.kind == OPEN ? wild_number(rng) : name(rng, traffic, traffic->sites);
+    number[0] = call.kind == OPEN ? wild_number(rng) : acting_site(rng, traffic);
     switch (namesake(call.kind)) {
     case OPEN:
         number[1] = wild_number(rng);
+        break;
+    case RETIRE:
         break;
     case DELIVER:
         number[1] = origin_for(rng, traffic, number[0]);

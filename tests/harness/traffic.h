@@ -11,7 +11,7 @@ struct traffic {
     unsigned weights[KINDS];
     uint64_t slow; /* bit 8 * site + origin */
     unsigned wild; /* percent of numbers that may be anything */
-    const uint8_t *table; /* where an adopt finds the pair it names; NULL: nowhere */
+    const uint8_t *table; /* where an adopt finds the pair it names, and who is live; NULL: nowhere */
 };
 
 struct traffic some_traffic(struct rng *rng, unsigned sites, unsigned keys, unsigned wild);

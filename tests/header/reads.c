@@ -33,7 +33,9 @@ static void expect(const char *what, unsigned long found, unsigned long wanted)
     EACH(FC_UNUSED, 12) \
     EACH(FC_RECORD, 13) \
     EACH(FC_RANGE, 14) \
-    EACH(FC_CHANGED, 15)
+    EACH(FC_CHANGED, 15) \
+    EACH(FC_RETIRED, 16) \
+    EACH(FC_LAST, 17)
 
 /* Document 02's touchers. */
 #define TOUCHERS(EACH) \

@@ -119,13 +119,14 @@ static void compare_some(struct traffic *traffic, uint64_t times)
         compare(some_call(&rng, traffic), right);
 }
 
-/* The traffic that suits the counts of the table that is held, with so many more drains. */
-static struct traffic traffic_of_held(unsigned wild, unsigned drains)
+/* The traffic that suits the counts of the table that is held, with so many more drains and retirements. */
+static struct traffic traffic_of_held(unsigned wild, unsigned more)
 {
     struct traffic traffic = some_traffic(&rng, held[0] ? held[0] : 1, held[1] ? held[1] : 1, wild);
     traffic.weights[OPEN] = rng_chance(&rng, 20);
-    traffic.weights[DRAIN] += drains;
-    traffic.weights[SHORT_DRAIN] += drains;
+    traffic.weights[DRAIN] += more;
+    traffic.weights[SHORT_DRAIN] += more;
+    traffic.weights[RETIRE] += more;
     traffic.table = held;
     return traffic;
 }

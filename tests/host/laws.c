@@ -169,9 +169,6 @@ static const char *broken_by_look(const struct call *call, const uint8_t *before
 static const char *broken_by_adopt(const struct call *call, const uint8_t *before, struct outcome after)
 {
     const uint64_t *number = call->numbers;
-    bool named = number[0] < before[0] && number[2] < before[0];
-    if (after.code != FC_UNSOUND && named == (after.code == FC_SITE))
-        return "4 exactly when the site or the named origin is not below n, whatever the key and the entry are";
     if (after.code != FC_OK && after.code != FC_CHANGED)
         return NULL;
     if (number[1] >= before[1])
@@ -311,6 +308,68 @@ const char *broken_by_a_look_or_an_adopt(bool short_lists, uint64_t *threes)
     return NULL;
 }
 
+/* Whether all that the call names as a site or an origin is below n. */
+static bool names_sites(const struct call *call, const uint8_t *table)
+{
+    enum kind kind = namesake(call->kind);
+    uint64_t origin = kind == DELIVER ? call->numbers[1] : kind == ADOPT ? call->numbers[2] : 0;
+    return call->numbers[0] < table[0] && origin < table[0];
+}
+
+/* Of a sound table, where nothing but its bytes and the call's numbers count: 4, then 5, then 16, then the rest. */
+static const char *broken_by_names(const struct call *call, const uint8_t *before, struct outcome after)
+{
+    if (call->kind == OPEN || after.code == FC_RANGE || after.code == FC_UNSOUND)
+        return NULL;
+    if (names_sites(call, before) == (after.code == FC_SITE))
+        return "4 exactly when a named site or origin is not below n, retired or not";
+    if (after.code == FC_SITE)
+        return NULL;
+    bool same = namesake(call->kind) == DELIVER && call->numbers[0] == call->numbers[1];
+    if (same != (after.code == FC_SAME))
+        return "5 exactly when a delivery names one site as both, retired or not";
+    if (!same && is_retired(before, call->numbers[0]) != (after.code == FC_RETIRED))
+        return "16 exactly when the acting site is retired, after 5 and before all others";
+    return NULL;
+}
+
+/* Whether some live site has applied 16 fewer of the site's puts than it has made. */
+static bool is_full(const uint8_t *table, size_t site)
+{
+    unsigned own = clock_at(table, applied_at(site, site));
+    bool full = false;
+    for (size_t other = 0; other < table[0]; other++)
+        full = full || (!is_retired(table, other) && clock_at(table, applied_at(other, site)) + FC_PLACES == own);
+    return full;
+}
+
+static const char *broken_by_room(const struct call *call, const uint8_t *before, struct outcome after)
+{
+    enum kind kind = namesake(call->kind);
+    if ((kind != PUT && kind != TOUCH) || (after.code != FC_OK && after.code != FC_ROOM))
+        return NULL;
+    return is_full(before, call->numbers[0]) == (after.code == FC_ROOM)
+               ? NULL
+               : "8 exactly when some live site has applied 16 fewer of the site's puts than it";
+}
+
+static const char *broken_by_retirement(const struct call *call, const uint8_t *before, struct outcome after)
+{
+    static const uint8_t zeros[FC_REPLY_BYTES];
+    size_t site = call->numbers[0];
+    uint8_t table[FC_TABLE_BYTES];
+    memcpy(table, before, sizeof table);
+    table[RETIRED] |= (uint8_t)(1u << site);
+    bool last = table[RETIRED] == (1u << before[0]) - 1;
+    if (last != (after.code == FC_LAST))
+        return "17 exactly when the last live site is to be retired";
+    if (last)
+        return NULL;
+    if (memcmp(after.reply, zeros, sizeof zeros) != 0)
+        return "retirement answers zeros";
+    return memcmp(table, after.table, sizeof table) == 0 ? NULL : "retirement sets the bit and changes no other byte";
+}
+
 /* The sum of 2 to the power m over the columns m of the next update's vector that are above the applied row. */
 static uint32_t failing_columns(const uint8_t *table, size_t site, size_t origin)
 {
@@ -352,6 +411,13 @@ const char *broken_law(enum start start, const struct call *call, const uint8_t 
     const char *broken = is_short(call->kind) ? broken_by_short_lists(call, before, after) : NULL;
     if (broken != NULL)
         return broken;
+    broken = broken_by_names(call, before, after);
+    if (broken == NULL)
+        broken = broken_by_room(call, before, after);
+    if (broken != NULL)
+        return broken;
+    if (kind == RETIRE && (after.code == FC_OK || after.code == FC_LAST))
+        return broken_by_retirement(call, before, after);
     if (after.code == FC_WAITS)
         return broken_by_waiting(call, before, after);
     if (kind == GET)

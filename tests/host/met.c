@@ -8,15 +8,16 @@
 /* The codes of each call, by documents 01 and 02. */
 static const bool possible[KINDS][CODES] = {
     [OPEN] = {[0] = true, [1] = true, [3] = true},
-    [PUT] = {[0] = true, [1] = true, [2] = true, [4] = true, [6] = true, [7] = true, [8] = true},
-    [GET] = {[0] = true, [1] = true, [2] = true, [4] = true, [6] = true},
-    [LOOK] = {[0] = true, [1] = true, [2] = true, [4] = true, [6] = true},
-    [ADOPT] = {[0] = true, [1] = true, [2] = true, [4] = true, [6] = true, [15] = true},
-    [DELIVER] = {[0] = true, [1] = true, [2] = true, [4] = true, [5] = true, [9] = true, [10] = true},
-    [DRAIN] = {[0] = true, [1] = true, [2] = true, [4] = true, [11] = true},
+    [PUT] = {[0] = true, [1] = true, [2] = true, [4] = true, [6] = true, [7] = true, [8] = true, [16] = true},
+    [GET] = {[0] = true, [1] = true, [2] = true, [4] = true, [6] = true, [16] = true},
+    [LOOK] = {[0] = true, [1] = true, [2] = true, [4] = true, [6] = true, [16] = true},
+    [ADOPT] = {[0] = true, [1] = true, [2] = true, [4] = true, [6] = true, [15] = true, [16] = true},
+    [DELIVER] = {[0] = true, [1] = true, [2] = true, [4] = true, [5] = true, [9] = true, [10] = true, [16] = true},
+    [DRAIN] = {[0] = true, [1] = true, [2] = true, [4] = true, [11] = true, [16] = true},
     [TOUCH] = {[0] = true, [1] = true, [2] = true, [4] = true, [6] = true, [7] = true, [8] = true, [13] = true,
-               [14] = true},
-    [COLD] = {[0] = true, [1] = true, [2] = true, [4] = true, [14] = true},
+               [14] = true, [16] = true},
+    [COLD] = {[0] = true, [1] = true, [2] = true, [4] = true, [14] = true, [16] = true},
+    [RETIRE] = {[0] = true, [1] = true, [2] = true, [4] = true, [16] = true, [17] = true},
 };
 
 /* A short call has the codes of its namesake. */
@@ -30,6 +31,17 @@ static bool sends_more(const struct call *put, const uint8_t *before, struct out
 {
     size_t site = put->numbers[0], update = update_at(site, fc_read(after.reply).clock);
     return memcmp(before + depends_at(site, 0), after.table + update + RECORD_VECTOR, VECTOR) != 0;
+}
+
+/* Whether some site, of an accepted put a retired one, has applied 16 fewer of the site's puts than it has made. */
+static bool held_up(const struct call *put, const uint8_t *before)
+{
+    size_t site = put->numbers[0];
+    unsigned own = clock_at(before, applied_at(site, site));
+    bool lags = false;
+    for (size_t other = 0; other < before[0]; other++)
+        lags = lags || clock_at(before, applied_at(other, site)) + FC_PLACES == own;
+    return lags;
 }
 
 void met_note(struct met *met, const struct call *call, const uint8_t *before, struct outcome after, bool changed)
@@ -51,6 +63,8 @@ void met_note(struct met *met, const struct call *call, const uint8_t *before, s
     if (kind == DELIVER && code == FC_OK)
         engine->meetings[meeting_of(call, before, after.reply)] += 1;
     engine->sent_more += kind == PUT && code == FC_OK && sends_more(call, before, after);
+    engine->went_on += kind == PUT && code == FC_OK && held_up(call, before);
+    engine->from_retired += kind == DELIVER && code == FC_OK && is_retired(before, answer.site);
     met->looked += kind == LOOK && code == FC_OK && answer.clock > 0;
     unsigned waited = 0;
     for (unsigned site = 0; site < FC_SITES; site++) {
@@ -70,6 +84,7 @@ bool met_all(const struct met *met)
     for (const struct met_by_engine *engine = met->engines; engine < met->engines + 2; engine++)
         all = all && engine->never_written && engine->learned && engine->adopted_none && engine->adopted &&
               engine->wide_clocks && engine->delivered && engine->stopped_late && engine->hours_kept &&
+              engine->went_on && engine->from_retired &&
               engine->threes == FC_SITES * (FC_SITES - 1) * (FC_SITES - 2);
     for (int meeting = 0; meeting < MEETINGS; meeting++)
         all = all && met->engines[false].meetings[meeting] && met->engines[true].meetings[meeting];
@@ -98,6 +113,8 @@ static void print_engine(const char *calls, const struct met_by_engine *engine)
            (unsigned long long)engine->sent_more, (unsigned long long)engine->meetings[NEVER_WRITTEN],
            (unsigned long long)engine->meetings[HIGHER_RANK], (unsigned long long)engine->meetings[ORIGIN_NOT_LOWER],
            (unsigned long long)engine->meetings[LOWER_RANK], (unsigned long long)engine->meetings[LOWER_ORIGIN]);
+    printf("  puts that a retired site no longer holds up %llu, deliveries of a retired origin's puts %llu\n",
+           (unsigned long long)engine->went_on, (unsigned long long)engine->from_retired);
 }
 
 void met_print(const struct met *met)

@@ -21,12 +21,13 @@ from declared import exported, functions, laws, parameters, report  # noqa: E402
 
 # Each promise by its file and name, and what puts a call's outcome together for it.
 OUTCOMES = {
-    ("table.specs.Answers", "Promise"): ("table.specs.Answers", "served"),
-    ("table.specs.Answers", "PromiseBy"): ("table.specs.Answers", "served"),
-    ("forkcanyon.specs.Host", "Promise"): ("forkcanyon.specs.Host", "left"),
-    ("forkcanyon.specs.ShortHost", "Promise"): ("forkcanyon.specs.Host", "left"),
+    ("answers.specs.Answers", "Promise"): ("answers.specs.Answers", "served"),
+    ("answers.specs.Answers", "PromiseBy"): ("answers.specs.Answers", "served"),
+    ("host.specs.Host", "Promise"): ("host.specs.Host", "left"),
+    ("host.specs.Host", "PromiseBy"): ("host.specs.Host", "left"),
+    ("forkcanyon.specs.ShortHost", "Promise"): ("host.specs.Host", "left"),
     ("cold.specs.Listing", "Promise"): ("cold.specs.Listing", "listed"),
-    ("forkcanyon.specs.ColdHost", "Promise"): ("forkcanyon.specs.ColdHost", "left"),
+    ("both.specs.ColdHost", "Promise"): ("both.specs.ColdHost", "left"),
     ("schedule.specs.Step", "Promise"): ("schedule.specs.Written", "answered"),
 }
 WRITTEN = ("schedule.specs.Written", "Written")
@@ -39,9 +40,11 @@ ENGINE = "Engine"
 
 # What a promise says in place of the constructor with the numbers; of Written, the place and the text.
 SAID = {
+    "host::drain": "(Drain site (min budget mostTries))",
     "forkcanyon::fc_drain": "(Drain site (min budget mostTries))",
     "forkcanyon::fc_short_drain": "(Drain site (min budget mostTries))",
     "cold::cold": "s hour threshold",
+    "both::cold": "site hour threshold",
     "forkcanyon::fc_cold": "site hour threshold",
     "schedule::play": "p",
     "schedule::write_answer": "0 (line number (numbersOf a))",
@@ -52,8 +55,8 @@ SAID = {
 CALLS = "rules.specs.Calls"
 HOMES = {
     "min": "Prim.Native.Nat",
-    "mostTries": "forkcanyon.specs.Host",
-    "numbersOf": "table.specs.Answers",
+    "mostTries": "host.specs.Host",
+    "numbersOf": "answers.specs.Answers",
     "line": "schedule.specs.Text",
     "listing": "schedule.specs.Listing",
 }

@@ -16,11 +16,11 @@ pub data Call : Type 0 where
   Drain : (site budget : ℕ) → Call
 """,
     "forkcanyon/specs/NoSecond.antt": """\
-use Rattle.forkcanyon.specs.Host.{Hosted, Promise}
+use Rattle.host.specs.Host.{Hosted, Promise}
 pub fc-get-no-second : NoSecond
 pub fc-drain-no-second : NoSecond
 """,
-    "forkcanyon/specs/Host.antt": """\
+    "host/specs/Host.antt": """\
 abbrev pub left : ℕ → List ℕ → Hosted
 left c t = (c, t)
 
@@ -29,15 +29,15 @@ Promise t c o = o ≡ host t c
 """,
 }
 PINNED = """\
-crates/forkcanyon/specs/Host.antt: abbrev pub left : ℕ → List ℕ → Hosted left c t = (c, t)
-crates/forkcanyon/specs/Host.antt: abbrev pub Promise : List ℕ → Call → Hosted → Type 0 Promise t c o = o ≡ host t c
+crates/host/specs/Host.antt: abbrev pub left : ℕ → List ℕ → Hosted left c t = (c, t)
+crates/host/specs/Host.antt: abbrev pub Promise : List ℕ → Call → Hosted → Type 0 Promise t c o = o ≡ host t c
 """
 KEPT = "    ensures { λ r. ⌜ Promise (now (t .entry)) (Get site key) (left r (now (t .exit))) ⌝ }\n"
 DRAIN = "(Drain site (min budget mostTries))"
 CODE = f"""\
 ghost use Prim.Native.Nat.{{min}};
 ghost use Rattle.rules.specs.Calls.{{Get, Drain}};
-ghost use Rattle.forkcanyon.specs.Host.{{left, Promise, mostTries}};
+ghost use Rattle.host.specs.Host.{{left, Promise, mostTries}};
 // pub fn ignored() {{ }}
 impl Table {{
     pub fn many(self) -> u8
@@ -127,7 +127,7 @@ class Small(unittest.TestCase):
     def test_a_call_that_only_reads(self):
         lent = CODE + "pub fn get(t: &[u8], site: usize) -> u8 ensures { λ r. ⌜ SAID ⌝ } { 0 }"
         kept = "Promise (now (t .entry)) (Get site) (left r (now (t .entry)))"
-        specs = {"table/specs/NoSecond.antt": "pub get-no-second : NoSecond\n"}
+        specs = {"answers/specs/NoSecond.antt": "pub get-no-second : NoSecond\n"}
         table = TABLE + "`forkcanyon::get`"
         self.assertEqual(self.of(lent.replace("SAID", kept), specs=specs, table=table), [])
         for said in ["r ≡ 0", kept.replace(".entry)))", ".exit)))")]:
@@ -143,9 +143,9 @@ class Small(unittest.TestCase):
 
     def test_the_other_engine(self):
         name = "forkcanyon/specs/NoSecond.antt"
-        words = {"forkcanyon/specs/ShortHost.antt": SPECS["forkcanyon/specs/Host.antt"]}
+        words = {"forkcanyon/specs/ShortHost.antt": SPECS["host/specs/Host.antt"]}
         words[name] = SPECS[name] + "use Rattle.forkcanyon.specs.ShortHost.{Promise}\npub fc-short-get-no-second : NoSecond\n"
-        table, pinned = TABLE + "`forkcanyon::fc_short_get`", PINNED + PINNED.replace("/Host", "/ShortHost")
+        table, pinned = TABLE + "`forkcanyon::fc_short_get`", PINNED + PINNED.replace("host/specs/Host", "forkcanyon/specs/ShortHost")
         short = CODE.partition("#[no_mangle]\npub extern \"C\" fn fc_drain")[0].replace("fc_get", "fc_short_get")
         self.assertEqual(self.of(short, words, table, pinned), ["fc_short_get: its promise is of our engine"])
         mine = "specs.Host.{left, mostTries};\nghost use Rattle.forkcanyon.specs.ShortHost.{Promise};"
@@ -155,7 +155,7 @@ class Small(unittest.TestCase):
         self.assertEqual(self.of(other, words, table, pinned), ["fc_get: its promise is of short lists"])
 
     def test_a_pinned_word_renamed(self):
-        name = "forkcanyon/specs/Host.antt"
+        name = "host/specs/Host.antt"
         renamed = {name: "use Rattle.rules.specs.Engine.{long as short}\n\n" + SPECS[name]}
         self.assertEqual(self.of(CODE, renamed), [f"crates/{name}: a pinned word has another meaning: long as short"])
 
@@ -199,7 +199,7 @@ class Small(unittest.TestCase):
         none = [f"{call}: {none}" for call in ("fc_get", "fc_drain")]
         self.assertEqual(self.edited(("specs.Host", "specs.Other")), none)
         self.assertEqual(self.edited(("left, Promise", "left, Any as Promise")), none)
-        left = [f"{call}: its left is not the one of forkcanyon.specs.Host" for call in ("fc_get", "fc_drain")]
+        left = [f"{call}: its left is not the one of host.specs.Host" for call in ("fc_get", "fc_drain")]
         self.assertEqual(self.edited(("{left, ", "{shown as left, ")), left)
         get = ["fc_get: its Get is not the one of rules.specs.Calls"]
         self.assertEqual(self.edited(("{Get, ", "{Look as Get, ")), get)
@@ -209,10 +209,10 @@ class Small(unittest.TestCase):
 
     def test_another_definition(self):
         for old, new in [("left c t = (c, t)", "left c t = (0, t)"), ("o ≡ host t c", "⊤")]:
-            host = SPECS["forkcanyon/specs/Host.antt"].replace(old, new)
-            found = self.of(CODE, specs={"forkcanyon/specs/Host.antt": host})
+            host = SPECS["host/specs/Host.antt"].replace(old, new)
+            found = self.of(CODE, specs={"host/specs/Host.antt": host})
             self.assertEqual(len(found), 1)
-            self.assertIn("crates/forkcanyon/specs/Host.antt: it no longer has", found[0])
+            self.assertIn("crates/host/specs/Host.antt: it no longer has", found[0])
         missing = [f"{call}: tests/promises/pinned.txt does not have its left" for call in ("fc_get", "fc_drain")]
         self.assertEqual(self.of(CODE, pinned=PINNED.splitlines()[1]), missing)
 
@@ -231,9 +231,11 @@ class Here(unittest.TestCase):
             shutil.copytree(HERE / "crates", root / "crates")
             shutil.copytree(HERE / "docs", root / "docs")
             shutil.copytree(HERE / "tests" / "promises", root / "tests" / "promises")
-            counts = {"table": 4, "touch": 1, "cold": 1, "drain": 1, "forkcanyon": 8, "schedule": 3}
+            counts = {"table": 3, "look": 2, "deliver": 1, "retire": 1, "touch": 1, "cold": 1, "drain": 1}
+            counts |= {"host": 6, "both": 3, "forkcanyon": 9, "schedule": 3}
             files = {f"{crate}/src/lib.rt": calls for crate, calls in counts.items()}
-            for name, calls in {**files, "table/src/look.rt": 2, "forkcanyon/src/cold_list.rt": 1, "forkcanyon/src/short_lists.rt": 6}.items():
+            files |= {"both/src/cold_list.rt": 1, "forkcanyon/src/cold_list.rt": 1, "forkcanyon/src/short_lists.rt": 6}
+            for name, calls in files.items():
                 file, crate = root / "crates" / name, name.split("/")[0]
                 kept = file.read_text()
                 found = list(HEAD.finditer(kept))

@@ -1,7 +1,7 @@
 /*
- * "When every site has applied every put, all stores are equal": random calls from opening, then one drain of each site
- * with a budget of 903, and the entries of all keys are the same bytes at every site. With short lists, at the steps
- * before request (e), runs end with sites that disagree.
+ * "When every site has applied every put, all stores are equal", of live sites: random calls from opening, retirements
+ * among them, then one drain of each live site with a budget of 903, and the entries of all keys are the same bytes at
+ * every live site. With short lists, at the steps before request (e), runs end with sites that disagree.
  */
 #include "tables.h"
 #include "traffic.h"
@@ -17,22 +17,36 @@ static uint8_t table[FC_TABLE_BYTES];
 static struct {
     uint64_t runs, unequal, unequal_drained;
 } seen[2];
-static uint64_t entries, written; /* held against those of site 0, in our runs */
+static uint64_t entries, written; /* held against those of the first live site, in our runs */
+static uint64_t retired, left;    /* runs with a retired site, and those in which a live one then lacked a put of it */
+
+static size_t first_live(void)
+{
+    size_t site = 0;
+    while (is_retired(table, site))
+        site++;
+    return site;
+}
 
 static bool stores_equal(void)
 {
     bool equal = true;
-    for (size_t site = 1; site < table[0]; site++)
-        equal = equal && memcmp(table + entry_at(site, 0), table + entry_at(0, 0), RECORD * (size_t)table[1]) == 0;
+    for (size_t site = 0, first = first_live(); site < table[0]; site++)
+        equal = equal && (is_retired(table, site) ||
+                          memcmp(table + entry_at(site, 0), table + entry_at(first, 0), RECORD * (size_t)table[1]) == 0);
     return equal;
 }
 
-static bool all_applied(void)
+/* Whether a live site lacks a put; or, if asked, one of a retired site. */
+static bool lacks(bool of_retired)
 {
-    bool all = true;
-    for (size_t site = 1; site < table[0]; site++)
-        all = all && memcmp(table + applied_at(site, 0), table + applied_at(0, 0), VECTOR) == 0;
-    return all;
+    bool some = false;
+    for (size_t site = 0; site < table[0]; site++)
+        for (size_t origin = 0; origin < table[0]; origin++) {
+            bool has = clock_at(table, applied_at(site, origin)) == clock_at(table, applied_at(origin, origin));
+            some = some || (!has && !is_retired(table, site) && (!of_retired || is_retired(table, origin)));
+        }
+    return some;
 }
 
 static void fail(const char *what, bool short_lists)
@@ -60,19 +74,25 @@ static void play(bool short_lists)
     for (uint64_t calls = rng_below(&rng, 200); calls > 0; calls--)
         make_plain_call(&forkcanyon, some_call(&rng, &traffic), table);
     bool equal = stores_equal();
+    retired += table[RETIRED] != 0;
+    left += lacks(true);
     uint64_t first = rng_below(&rng, sites);
-    for (uint64_t site = 0; site < sites; site++)
-        must(short_lists ? SHORT_DRAIN : DRAIN, (first + site) % sites, FC_ENOUGH);
-    if (!all_applied())
+    for (uint64_t at = 0; at < sites; at++)
+        if (!is_retired(table, (first + at) % sites))
+            must(short_lists ? SHORT_DRAIN : DRAIN, (first + at) % sites, FC_ENOUGH);
+    if (lacks(false))
         fail("a drain has left a put behind", short_lists);
     bool equal_drained = stores_equal();
     if (!short_lists && !equal_drained)
-        fail("every site has applied every put, and the stores are not equal", false);
+        fail("every live site has applied every put, and their stores are not equal", false);
     seen[short_lists].runs++;
     seen[short_lists].unequal += !equal;
     seen[short_lists].unequal_drained += !equal_drained;
-    for (size_t key = 0; key < keys && !short_lists; key++, entries += sites - 1)
-        written += clock_at(table, entry_at(0, key) + RECORD_CLOCK) > 0 ? sites - 1 : 0;
+    uint64_t others = 0;
+    for (size_t site = first_live() + 1; site < sites; site++)
+        others += !is_retired(table, site);
+    for (size_t key = 0; key < keys && !short_lists; key++, entries += others)
+        written += clock_at(table, entry_at(first_live(), key) + RECORD_CLOCK) > 0 ? others : 0;
 }
 
 int main(int argc, char **argv)
@@ -94,8 +114,14 @@ int main(int argc, char **argv)
     printf("stores: with short lists %llu runs, in %llu of them sites disagreed before the drains, in %llu for good\n",
            (unsigned long long)seen[true].runs, (unsigned long long)seen[true].unequal,
            (unsigned long long)seen[true].unequal_drained);
+    printf("stores: in %llu of all runs a site was retired, in %llu of these a live one still lacked a put of it\n",
+           (unsigned long long)retired, (unsigned long long)left);
     if (seen[false].unequal * 4 < seen[false].runs || seen[true].unequal_drained * 4 < seen[true].runs) {
         puts("stores: FAILED: sites hardly ever disagreed, so this shows nothing");
+        return 1;
+    }
+    if (left * 20 < seen[false].runs) {
+        puts("stores: FAILED: hardly a site was retired with puts under way, so of these this shows nothing");
         return 1;
     }
     return 0;

@@ -57,6 +57,29 @@ uint32_t __wrap_fc_deliver(uint64_t site, uint64_t origin, uint8_t *table, size_
     return code;
 }
 
+#elif defined WRONG_DROPS
+
+one_number __real_fc_retire, __wrap_fc_retire;
+
+/* A retirement that drops the site's puts: the others count them as applied. */
+uint32_t __wrap_fc_retire(uint64_t site, uint8_t *table, size_t table_len, uint8_t *reply, size_t reply_len)
+{
+    uint32_t code = __real_fc_retire(site, table, table_len, reply, reply_len);
+    for (size_t other = 0; code == FC_OK && other < table[0]; other++)
+        memcpy(table + applied_at(other, site), table + applied_at(site, site), 2);
+    return code;
+}
+
+#elif defined WRONG_NOBODY
+
+one_number __wrap_fc_retire;
+
+/* A retirement that does nothing. */
+uint32_t __wrap_fc_retire(uint64_t site, uint8_t *table, size_t table_len, uint8_t *reply, size_t reply_len)
+{
+    return fc_look(site, 0, table, table_len, reply, reply_len);
+}
+
 #elif defined WRONG_SHORT
 
 /* Our calls under the names of short ones: none disagrees. */

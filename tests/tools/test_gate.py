@@ -57,6 +57,11 @@ class Gate(unittest.TestCase):
         self.script("tests/two/run", "#!/bin/sh\n")
         self.assertEqual(self.run_tests(), (1, ["tests/two/: FAILED: tests/run does not name it"]))
 
+    def test_what_says_nothing_fails(self):
+        self.script("tests/one/run", "#!/bin/sh\n")
+        said = "tests/one/run: FAILED: it says nothing, so it shows nothing"
+        self.assertEqual(self.run_tests(), (1, ["== tests/one/run", said]))
+
     def test_what_can_not_be_run_fails(self):
         self.name("one two")
         self.script("tests/two/run", "#!/bin/sh\n", 0o644)

@@ -1,11 +1,12 @@
 """tools/sched: text to bytes and back, and a line number in every error."""
 
 import random
+import subprocess
 import unittest
 
-from support import ROOT, run_tool
+from support import ROOT, TWIN, run_tool
 from schedule_bytes import MOST_STEPS, Step, schedule_bytes, step_bytes, step_of
-from schedule_text import BadLine, schedule_of, text_of
+from schedule_text import BadLine, schedule_of, script_of, script_text, text_of
 
 SCOPE = bytes.fromhex(
     "0304 000100000007 880000000000 480100000000 080200000009 910000000000 D00000000000 500100000000"
@@ -34,6 +35,10 @@ class RoundTrips(unittest.TestCase):
         text = "sites 8 keys 64\nput 7 63 4294967295\nget 6 0 origin=2 value=9\ndeliver 0 5\ndrain 3\nbytes 48 01\n"
         self.assertEqual(text_of(schedule_of(text)), text)
 
+    def test_a_text_with_a_retire_comes_back(self):
+        text = "sites 8 keys 64\nput 7 63 1\nretire 7\ndrain 0 key=1\n"
+        self.assertEqual(script_text(script_of("# a comment\n" + text)), text)
+
     def test_more_than_is_read_comes_back(self):
         data = schedule_bytes(1, 1, [Step("get")] * MOST_STEPS) + bytes(range(13))
         self.assertEqual(schedule_of(text_of(data)), data)
@@ -52,6 +57,7 @@ class Errors(unittest.TestCase):
         self.assert_line(5, "'push' is none of", top + "put 0 1 7 # fine\npush 1")
         for call in ("look 0 1", "adopt 0 1 0 0", "touch 0 1 0 0 0", "cold 0 1 24"):
             self.assert_line(4, f"'{call.split()[0]}' is none of put, get, deliver, drain", top + call)
+        self.assert_line(5, "a schedule has no retire", top + "put 0 1 7\nretire 1")
         self.assert_line(4, "site 8 is above 7", top + "drain 8")
         self.assert_line(4, "key 256 is above 255", top + "get 0 256")
         self.assert_line(4, "value 4294967296 is above", top + "put 0 0 4294967296")
@@ -68,6 +74,47 @@ class Errors(unittest.TestCase):
         self.assert_line(MOST_STEPS + 2, "only 10922", "sites 1 keys 1\n" + "get 0 0\n" * (MOST_STEPS + 1))
 
 
+    def test_a_retire_too(self):
+        for line, why, text in [
+            (2, "retire takes site", "retire"),
+            (2, "retire takes site", "retire 1 2"),
+            (2, "site 8 is above 7", "retire 8"),
+            (2, "'key=' is not a field", "retire 1 key=0"),
+            (3, "bytes are a schedule's", "retire 1\nbytes 01"),
+        ]:
+            with self.assertRaises(BadLine) as caught:
+                script_of("sites 3 keys 4\n" + text)
+            self.assertEqual(caught.exception.line, line)
+            self.assertIn(why, str(caught.exception))
+
+
+class Played(unittest.TestCase):
+    """build/table makes the calls of a text, with a retire among them or not."""
+
+    def listing(self, text):
+        run = subprocess.run([ROOT / "build" / "table", "listing"], input=text.encode(), capture_output=True, check=True)
+        return run.stdout.decode()
+
+    def test_as_the_program_for_schedules_plays_it(self):
+        rng = random.Random(3)
+        texts = [script_text(script_of((ROOT / "docs" / name).read_text())) for name in ("scope.sched", "waits.sched")]
+        for sites in (1, 2, 3, 5, 8, 9):
+            steps = []
+            for _ in range(300):
+                site, origin, key = rng.randrange(sites + 1) % 8, rng.randrange(sites) % 8, rng.randrange(4)
+                put, get = Step("put", site, 0, key, rng.randrange(9)), Step("get", site, 0, key)
+                steps.append(rng.choice((put, get, Step("deliver", site, origin), Step("drain", site), Step("drain", 0, 1))))
+            texts.append(text_of(schedule_bytes(sites, 3, steps)))
+        for text in texts:
+            run = subprocess.run([TWIN], input=schedule_of(text), capture_output=True, check=True)
+            self.assertEqual(self.listing(text), run.stdout.decode())
+
+    def test_a_retire_and_what_comes_of_it(self):
+        text = "sites 2 keys 1\n" + "put 0 0 1\n" * 17 + "retire 1\nput 0 0 1\nget 1 0\nretire 1\nretire 0\nretire 5\n"
+        codes = [int(line.split()[1]) for line in self.listing(text).splitlines()[17:-1]]
+        self.assertEqual(codes, [8, 0, 0, 16, 16, 17, 4])
+
+
 class Tool(unittest.TestCase):
     def test_encode_and_decode(self):
         scope = str(ROOT / "docs" / "scope.sched")
@@ -78,6 +125,13 @@ class Tool(unittest.TestCase):
         run = run_tool("sched", "look")
         self.assertEqual((run.returncode, run.stdout), (1, b""))
         self.assertIn(b"steps put, get, deliver and drain. Look, adopt, touch and the cold list are", run.stderr)
+
+    def test_plain_has_no_comments(self):
+        plain = run_tool("sched", "plain", str(ROOT / "docs" / "closed.sched")).stdout.decode()
+        self.assertEqual(plain.splitlines()[:2] + plain.splitlines()[4:6], ["sites 3 keys 2", "put 2 1 5", "retire 2", "get 2 0"])
+        run = run_tool("sched", "encode", str(ROOT / "docs" / "closed.sched"))
+        self.assertEqual((run.returncode, run.stdout), (1, b""))
+        self.assertIn(b"closed.sched: line 6: a schedule has no retire", run.stderr)
 
     def test_an_error_ends_it(self):
         run = run_tool("sched", "encode", data=b"sites 3 keys 4\nput 0\n")
@@ -110,6 +164,12 @@ class Tool(unittest.TestCase):
         self.assertEqual(played.stderr, b"")
         self.assertEqual(played.stdout.count(b"refused: "), 6)
         self.assertEqual(run_tool("sched", "play", data=b"sites 9 keys 1\n").stdout.count(b"refused: "), 1)
+
+    def test_play_says_who_is_retired(self):
+        played = run_tool("sched", "play", data=b"sites 2 keys 1\nretire 1\nget 1 0\nretire 0\nput 0 0 5\n")
+        words = [line.rsplit("   ", 1)[1] for line in played.stdout.decode().splitlines()[1:5]]
+        last = "refused: the last live site stays"
+        self.assertEqual(words, ["retired", "refused: the site is retired", last, "key 0 is 5, put 1 of site 0"])
 
 
 unittest.main()

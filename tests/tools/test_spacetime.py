@@ -32,6 +32,23 @@ class Pictures(unittest.TestCase):
         for words in ("put 1 = 7", "0:1", "key 1 of 0:1", "waits for 0:1", "2 in 6 tries", "7 of 0:1"):
             self.assertIn(words, words_in(run.stdout))
 
+    def test_a_retired_site(self):
+        run = run_tool("spacetime", str(ROOT / "docs" / "closed.sched"))
+        self.assertEqual(run.stdout, (ROOT / "docs" / "closed.svg").read_bytes())
+        found = words_in(run.stdout)
+        for words in ("retired", "get 2 0", "refused 16", "2 in 6 tries", "key 1 of 2:1"):
+            self.assertIn(words, found)
+        lines = ElementTree.fromstring(run.stdout).iterfind("svg:line", NAMES)
+        # From its fourth step on, the line of site 2.
+        dotted = [(line.get("x1"), line.get("y1")) for line in lines if line.get("stroke-dasharray") == "1 5"]
+        self.assertEqual(dotted, [("464", "328")])
+
+    def test_clocks_waited_for_where_a_site_is_retired(self):
+        begun = (ROOT / "docs" / "waits.sched").read_text().partition("deliver 4 1")[0]
+        found = words_in(drawn(begun.replace("deliver 4 3", "retire 3\ndeliver 4 3", 1)).stdout)
+        for words in ("retired", "waits for 0:1", "1:2 2:1"):
+            self.assertIn(words, found)
+
     def test_a_dashed_line_from_each_put_waited_for(self):
         run = run_tool("spacetime", str(ROOT / "docs" / "waits.sched"))
         found = words_in(run.stdout)

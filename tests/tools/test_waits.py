@@ -7,7 +7,7 @@ import unittest
 from pathlib import Path
 
 from support import ROOT
-from schedule_text import schedule_of, text_of
+from schedule_text import script_of, script_text
 
 TABLE_BYTES = 15620
 THREE = (ROOT / "docs" / "waits.sched").read_text()
@@ -15,7 +15,7 @@ LEGEND = "- nothing to deliver; ready; or site:clock, each put that the link's n
 
 
 def table_after(text):
-    made = subprocess.run([ROOT / "build" / "table"], input=text_of(schedule_of(text)).encode(), capture_output=True, check=True)
+    made = subprocess.run([ROOT / "build" / "table"], input=script_text(script_of(text)).encode(), capture_output=True, check=True)
     return made.stdout
 
 
@@ -68,6 +68,24 @@ class Grids(unittest.TestCase):
         self.assertNotEqual(make("table", "docs/none.sched").returncode, 0)
         refused = subprocess.run([ROOT / "build" / "table"], input=b"sites 9 keys 1\n", capture_output=True, check=False)
         self.assertEqual((refused.returncode, refused.stdout), (1, b""))
+
+    def test_retired_sites(self):
+        before = THREE.partition("deliver 4 1")[0]
+        lines = grid(table_after(before + "retire 3\nretire 1\n"))
+        self.assertEqual(
+            lines[1:7],
+            [
+                "to 0 ready ready 1:2 2:1 -",
+                "to 1 retired retired retired retired",
+                "to 2 ready ready 0:1 1:2 -",
+                "to 3 retired retired retired retired",
+                "to 4 ready ready ready 0:1 1:2 2:1",
+                LEGEND,
+            ],
+        )
+        self.assertIn("retired: nothing is delivered there any more", lines[7])
+        # Site 0 may be retired too.
+        self.assertEqual(grid(table_after(before + "retire 0\n"))[1], "to 0 retired retired retired retired")
 
     def test_after_a_site_has_caught_up(self):
         self.assertEqual(grid(table_after(THREE))[5], "to 4 - - - -")

@@ -21,6 +21,8 @@ pub enum Code {
     NoRecord = 13,
     OutOfRange = 14,
     Changed = 15,
+    Retired = 16,
+    LastLiveSite = 17,
 }
 
 /// For drain, `clock` holds the deliveries and `value` the tries.

@@ -1,5 +1,5 @@
-//! Open, put, get, look, adopt and deliver on a buffer of the right length; refusals stand in the order in which they
-//! are asked.
+//! Open, put, get, look, adopt, deliver and retire on a buffer of the right length; refusals stand in the order in which
+//! they are asked.
 
 use crate::answer::{Answer, Code, Outcome};
 use crate::engine::Engine;
@@ -16,7 +16,7 @@ pub fn open(table: &mut Table, sites: u64, keys: u64) -> Outcome {
 
 pub fn put(table: &mut Table, engine: Engine, site: u64, key: u64, value: u32) -> Outcome {
     demand_sound(table)?;
-    let site = named_site(table, site)?;
+    let site = acting_site(table, site)?;
     let key = named_key(table, key)?;
     put_at(table, engine, site, key, value)
 }
@@ -26,8 +26,8 @@ pub fn put_at(table: &mut Table, engine: Engine, site: usize, key: usize, value:
     let Some(clock) = table.applied(site, site).checked_add(1) else {
         return Err(Answer::refused(Code::ClocksSpent));
     };
-    // "Some site has applied 16 fewer of s's puts than s": clock is one past s's own count.
-    if (0..table.sites()).any(|other| usize::from(clock - table.applied(other, site)) > PLACES) {
+    // "Some site has applied 16 fewer of s's puts than s", of the live ones: clock is one past s's own count.
+    if table.live().any(|other| usize::from(clock - table.applied(other, site)) > PLACES) {
         return Err(Answer::refused(Code::NoRoom));
     }
     if engine.put_gets_first() {
@@ -44,7 +44,7 @@ pub fn put_at(table: &mut Table, engine: Engine, site: usize, key: usize, value:
 
 pub fn get(table: &mut Table, engine: Engine, site: u64, key: u64) -> Outcome {
     demand_sound(table)?;
-    let site = named_site(table, site)?;
+    let site = acting_site(table, site)?;
     let key = named_key(table, key)?;
     Ok(read(key, get_at(table, engine, site, key)))
 }
@@ -52,7 +52,7 @@ pub fn get(table: &mut Table, engine: Engine, site: u64, key: u64) -> Outcome {
 /// "Look, which answers as get and changes nothing."
 pub fn look(table: &Table, site: u64, key: u64) -> Outcome {
     demand_sound(table)?;
-    let site = named_site(table, site)?;
+    let site = acting_site(table, site)?;
     let key = named_key(table, key)?;
     Ok(read(key, look_at(table, site, key)))
 }
@@ -62,6 +62,7 @@ pub fn adopt(table: &mut Table, engine: Engine, site: u64, key: u64, origin: u64
     demand_sound(table)?;
     let site = named_site(table, site)?;
     let origin = named_site(table, origin)?;
+    demand_live(table, site)?;
     let key = named_key(table, key)?;
     // "15 when the entry no longer has that origin and clock"; a never-written one has (0, 0).
     let entry = table.entry(site, key);
@@ -98,6 +99,8 @@ pub fn deliver(table: &mut Table, engine: Engine, site: u64, origin: u64) -> Out
     if site == origin {
         return Err(Answer::refused(Code::SameSite));
     }
+    // Of the receiver alone: the puts of a retired origin "stay for the others".
+    demand_live(table, site)?;
     try_delivery(table, engine, site, origin)
 }
 
@@ -126,6 +129,17 @@ pub fn try_delivery(table: &mut Table, engine: Engine, site: usize, origin: usiz
     Ok(Answer::accepted(update.name, origin as u8, clock, update.value))
 }
 
+/// "Byte 2 holds the retired sites"; no other byte changes.
+pub fn retire(table: &mut Table, site: u64) -> Outcome {
+    demand_sound(table)?;
+    let site = acting_site(table, site)?;
+    if table.live().all(|other| other == site) {
+        return Err(Answer::refused(Code::LastLiveSite));
+    }
+    table.retire(site);
+    Ok(Answer::accepted(0, 0, 0, 0))
+}
+
 pub fn demand_sound(table: &Table) -> Result<(), Answer> {
     if is_sound(table) {
         Ok(())
@@ -134,8 +148,24 @@ pub fn demand_sound(table: &Table) -> Result<(), Answer> {
     }
 }
 
-pub fn named_site(table: &Table, site: u64) -> Result<usize, Answer> {
+fn named_site(table: &Table, site: u64) -> Result<usize, Answer> {
     below(site, table.sites(), Code::Site)
+}
+
+/// "16 when the acting site is retired, after 5."
+fn demand_live(table: &Table, site: usize) -> Result<(), Answer> {
+    if table.is_retired(site) {
+        Err(Answer::refused(Code::Retired))
+    } else {
+        Ok(())
+    }
+}
+
+/// The site of a call that names no other.
+pub fn acting_site(table: &Table, site: u64) -> Result<usize, Answer> {
+    let site = named_site(table, site)?;
+    demand_live(table, site)?;
+    Ok(site)
 }
 
 pub fn named_key(table: &Table, key: u64) -> Result<usize, Answer> {

@@ -1,7 +1,7 @@
 //! The cold list.
 
 use crate::answer::{Answer, Code, Outcome};
-use crate::calls::{demand_sound, look_at, named_site};
+use crate::calls::{acting_site, demand_sound, look_at};
 use crate::table::{Table, KEYS};
 use crate::touch::Touch;
 
@@ -27,7 +27,7 @@ pub fn asked(now: u64, threshold: u64, list: &mut [u8]) -> Result<Asked<'_>, Ans
 /// "The answer's key, site and clock count keys listed, clocks ahead and malformed values."
 pub fn cold(table: &Table, site: u64, asked: Asked) -> Outcome {
     demand_sound(table)?;
-    let site = named_site(table, site)?;
+    let site = acting_site(table, site)?;
     let (mut listed, mut ahead, mut malformed) = (0, 0, 0);
     *asked.list = [0; LIST_BYTES];
     for key in 0..table.keys() {

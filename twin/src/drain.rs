@@ -1,13 +1,13 @@
 //! Drain: passes over the other origins until one delivers nothing.
 
 use crate::answer::{Answer, Code, Outcome};
-use crate::calls::{demand_sound, named_site, try_delivery};
+use crate::calls::{acting_site, demand_sound, try_delivery};
 use crate::engine::Engine;
 use crate::table::Table;
 
 pub fn drain(table: &mut Table, engine: Engine, site: u64, budget: u64) -> Outcome {
     demand_sound(table)?;
-    let site = named_site(table, site)?;
+    let site = acting_site(table, site)?;
     // "A budget above 65,535 counts as 65,535."
     let budget = budget.min(65_535) as u32;
     let mut made = Answer::accepted(0, 0, 0, 0);

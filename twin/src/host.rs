@@ -24,6 +24,7 @@ exported!(twin_look, crate::look, site: u64, key: u64);
 exported!(twin_adopt, crate::adopt, site: u64, key: u64, origin: u64, clock: u64);
 exported!(twin_deliver, crate::deliver, site: u64, origin: u64);
 exported!(twin_drain, crate::drain, site: u64, budget: u64);
+exported!(twin_retire, crate::retire, site: u64);
 exported!(twin_touch, crate::touch, site: u64, key: u64, now: u64, toucher: u64, tier: u64);
 exported!(
     twin_cold,

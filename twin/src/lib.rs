@@ -1,7 +1,7 @@
 //! A second Forkcanyon: the table of documents 01 and 02 and its calls, written from these documents alone.
 //!
-//! Every call takes any numbers and any buffers, writes the reply and returns its code. Opening, a look and a cold list
-//! know no engine.
+//! Every call takes any numbers and any buffers, writes the reply and returns its code. Opening, a look, a cold
+//! list and a retirement know no engine.
 
 mod answer;
 mod calls;
@@ -84,6 +84,11 @@ pub fn open(sites: u64, keys: u64, table: &mut [u8], reply: &mut [u8]) -> u32 {
 /// Reads a key at a site and changes nothing.
 pub fn look(site: u64, key: u64, table: &mut [u8], reply: &mut [u8]) -> u32 {
     edge(table, reply, |table| calls::look(table, site, key))
+}
+
+/// Retires a site: from then on it is refused every call, and no other waits for it.
+pub fn retire(site: u64, table: &mut [u8], reply: &mut [u8]) -> u32 {
+    edge(table, reply, |table| calls::retire(table, site))
 }
 
 /// Lists the keys that have been cold at a site for the threshold or longer; changes nothing.

@@ -49,8 +49,22 @@ impl<'a> Table<'a> {
         self.bytes[1].into()
     }
 
-    pub fn header_zeros(&self) -> [u8; 2] {
-        self.chunk(2)
+    /// "Byte 2 holds the retired sites, bit m worth 2 to the power m."
+    pub fn is_retired(&self, site: usize) -> bool {
+        self.bytes[2] & 1 << site != 0
+    }
+
+    pub fn retire(&mut self, site: usize) {
+        self.bytes[2] |= 1 << site;
+    }
+
+    /// The sites below n, at most eight, that are not retired.
+    pub fn live(&self) -> impl Iterator<Item = usize> + '_ {
+        (0..self.sites()).filter(|&site| !self.is_retired(site))
+    }
+
+    pub fn byte_3(&self) -> u8 {
+        self.bytes[3]
     }
 
     pub fn applied(&self, site: usize, origin: usize) -> u16 {

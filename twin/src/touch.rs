@@ -1,7 +1,7 @@
 //! Touch records, and touch.
 
 use crate::answer::{Answer, Code, Outcome};
-use crate::calls::{demand_sound, get_at, named_key, named_site, put_at};
+use crate::calls::{acting_site, demand_sound, get_at, named_key, put_at};
 use crate::engine::Engine;
 use crate::table::Table;
 
@@ -38,7 +38,7 @@ pub fn asked(now: u64, toucher: u64, tier: u64) -> Result<Touch, Answer> {
 /// "Touch gets a key and puts a record .. and a refusal undoes the get."
 pub fn touch(table: &mut Table, engine: Engine, site: u64, key: u64, asked: Touch) -> Outcome {
     demand_sound(table)?;
-    let site = named_site(table, site)?;
+    let site = acting_site(table, site)?;
     let key = named_key(table, key)?;
     let depends = table.depends_row(site);
     let outcome = got_and_put(table, engine, site, key, asked);

@@ -1,9 +1,9 @@
 // Document 01's cases that are not starred, and case 13. Each answer is a line: the case, then the answer's five numbers.
+use answers::Answer;
+use answers::Engine;
 use layout::Table;
 use libc::STDOUT_FILENO;
 use schedule::Schedule;
-use table::Answer;
-use table::Engine;
 
 fn say(case: u32, a: Answer) {
     let mut text = [0u8; Schedule::LINE];
@@ -35,20 +35,20 @@ fn winner(t: &mut [u8], engine: Engine) {
     table::open(t, 2, 2);
     table::put(t, 0, 0, 5, engine);
     table::put(t, 1, 0, 6, engine);
-    table::deliver(t, 0, 1, engine);
-    table::deliver(t, 1, 0, engine);
-    say(13, table::look::look(t, 0, 0));
-    say(13, table::look::look(t, 1, 0));
+    deliver::deliver(t, 0, 1, engine);
+    deliver::deliver(t, 1, 0, engine);
+    say(13, look::look(t, 0, 0));
+    say(13, look::look(t, 1, 0));
 }
 
 // 14: step 6 of the schedule with a budget.
 fn budget(t: &mut [u8], b: u16) {
     table::open(t, 3, 4);
     table::put(t, 0, 1, 7, Engine::Ranked);
-    table::deliver(t, 1, 0, Engine::Ranked);
+    deliver::deliver(t, 1, 0, Engine::Ranked);
     table::get(t, 1, 1, Engine::Ranked);
     table::put(t, 1, 2, 9, Engine::Ranked);
-    table::deliver(t, 2, 1, Engine::Ranked);
+    deliver::deliver(t, 2, 1, Engine::Ranked);
     say(14, drain::drain(t, 2, b, Engine::Ranked));
 }
 
@@ -56,7 +56,7 @@ fn budget(t: &mut [u8], b: u16) {
 fn calls(t: &mut [u8]) {
     say(16, table::put(t, 0, 0, 5, Engine::Ranked));
     say(16, table::get(t, 0, 0, Engine::Ranked));
-    say(16, table::deliver(t, 1, 0, Engine::Ranked));
+    say(16, deliver::deliver(t, 1, 0, Engine::Ranked));
     say(16, drain::drain(t, 0, 903, Engine::Ranked));
 }
 

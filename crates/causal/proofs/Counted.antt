@@ -3,7 +3,7 @@ use mathlib.Core.Logic.{inl, inr}
 use Prim.Native.Nat.{ℕ, _<_}
 use native.Mathlib.Omega.{arith}
 use Rattle.clock.specs.Lists.{_∈_}
-use Rattle.causal.specs.World.{World, put, withPut, PUT, GET, LOOK, ADOPT, UPDATE, Run, begin, more}
+use Rattle.causal.specs.World.{World, put, withPut, PUT, GET, LOOK, ADOPT, UPDATE, RETIRE, Run, begin, more}
 use Rattle.causal.specs.History.{History}
 use Rattle.causal.specs.Refines.{PutsCounted}
 use Rattle.causal.proofs.Updates.{clash, next, Issued, extends, newest-issued}
@@ -21,6 +21,8 @@ run-issued h W (more l (LOOK s y i j)) o x v c (inl q) = clash (cc)
 run-issued h W (more {h = h₁} {W = W₁} l (LOOK s y i j)) o x v c (inr q) = run-issued h₁ W₁ l o x v c q
 run-issued h W (more l (ADOPT s y i j)) o x v c (inl q) = clash (cc)
 run-issued h W (more {h = h₁} {W = W₁} l (ADOPT s y i j)) o x v c (inr q) = run-issued h₁ W₁ l o x v c q
+run-issued h W (more l (RETIRE s i)) o x v c (inl q) = clash (cc)
+run-issued h W (more {h = h₁} {W = W₁} l (RETIRE s i)) o x v c (inr q) = run-issued h₁ W₁ l o x v c q
 run-issued h W (more l (UPDATE s t b i j d e f g)) o x v c (inl q) = clash (cc)
 run-issued h W (more {h = h₁} {W = W₁} l (UPDATE s t b i j d e f g)) o x v c (inr q) = run-issued h₁ W₁ l o x v c q
 

@@ -8,7 +8,7 @@ use lib.Dec.{eqb}
 use borrow.Author.Tests.{eqb-true, eq-eqb}
 use Rattle.clock.specs.Map.{if_then_else_}
 use Rattle.clock.specs.Lists.{_∈_, Before}
-use Rattle.causal.specs.World.{Event, put, get, look, adopt, update}
+use Rattle.causal.specs.World.{Event, put, get, look, adopt, update, retire}
 use Rattle.causal.specs.History.{History, Ranks, Op, Write, op, order, Ordered, AppliedExactly}
 use Rattle.causal.proofs.Updates.{clash, earlier-in}
 
@@ -35,6 +35,7 @@ op-is s (put t y w b) o c x v q = let (i, r) = one (eqb t s) _ _ q in let z : t 
 op-is s (get t y a) o c x v q = let r = one (eqb t s) _ _ q .1 in clash (cc)
 op-is s (look t y a) o c x v q = let r = one (eqb t s) _ _ q .1 in clash (cc)
 op-is s (adopt t y a) o c x v q = absurd q
+op-is s (retire t) o c x v q = absurd q
 op-is s (update t o₁ b y w) o c x v q = let (i, r) = one (eqb t s) _ _ q in let z : t ≡ s = eqb-true t s i in inr (cc)
 
 pub came : (s : ℕ) (h : History) (o c x v : ℕ) → Write o c x v ∈ order s h → ((o ≡ s) × put o x v c ∈ h) ⊎ (update s o c x v ∈ h)

@@ -10,7 +10,7 @@ use lib.ListN.{length}
 use borrow.Author.Tests.{eqb-true, eq-eqb}
 use Rattle.clock.specs.Map.{if_then_else_, _⟨_≔_⟩, _⟨_⟩⟨_≔_⟩}
 use Rattle.clock.proofs.Maps.{choice, at-same, at-other}
-use Rattle.causal.specs.World.{Set, Rank, Update, Replaces, just, _∪_, Answer, wrote, Entry, World, nth, due, waiting, learned, withGet, withUpdate, Behind, CausesApplied, Event, put, get, look, adopt, update, start}
+use Rattle.causal.specs.World.{Set, Rank, Update, Replaces, just, _∪_, Answer, wrote, Entry, World, nth, due, waiting, learned, withGet, withUpdate, Behind, CausesApplied, Event, put, get, look, adopt, update, retire, start}
 use Rattle.clock.specs.Lists.{_∈_}
 use Rattle.causal.specs.History.{History, Names, Saw, Op, Write, Read, op, order, Ranks, Came, Takes, Cause, direct, deeper}
 use Rattle.causal.proofs.Updates.{clash, Updates, Issued, Closed, learned-is, learned-put}
@@ -184,6 +184,12 @@ module _ (r : Ranks) (h : History) (W : World) (t x : ℕ) (I : Inv r h W) where
   inv-get =
       inv-other r h W I _ (λ o y v c q. clash (cc)) _ (W .applied) (W .store) (I .own-count) (λ s. grow-old (W .depends) t s _) named
       (learns-known _ (λ o c k. (refl, k))) (learns (λ s. order s (get t x found ∷ h)) looked)
+
+pub inv-retire : (r : Ranks) (h : History) (W : World) (t : ℕ) → Inv r h W → Inv r (retire t ∷ h) W
+unfolding order op
+inv-retire r h W t I =
+    inv-other r h W I _ (λ o y v c q. clash (cc)) (W .depends) (W .applied) (W .store) (I .own-count) (λ s o c k. k) (λ s o c k. absurd k)
+    (λ s o c k. known-more r h _ (I .knows s o c k)) (I .site)
 
 -- ## Update
 

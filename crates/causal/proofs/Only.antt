@@ -6,7 +6,7 @@ use Prim.Native.Nat.{ℕ}
 use native.Mathlib.Omega.{arith}
 use lib.ListN.{length}
 use Rattle.clock.specs.Lists.{_∈_}
-use Rattle.causal.specs.World.{Rank, Update, World, nth, Event, put, PUT, GET, LOOK, ADOPT, UPDATE, Run, begin, more}
+use Rattle.causal.specs.World.{Rank, Update, World, nth, Event, put, PUT, GET, LOOK, ADOPT, UPDATE, RETIRE, Run, begin, more}
 use Rattle.causal.specs.History.{History, Ranks, Came, Takes, Cause, direct, deeper, Ranking}
 use Rattle.causal.proofs.Updates.{clash, next, Updates, Issued}
 use Rattle.causal.proofs.Vectors.{tops-same}
@@ -53,6 +53,7 @@ run-unique r h W (more {h = h₁} {W = W₁} k (PUT s y w i j)) R =
 run-unique r h W (more {h = h₁} {W = W₁} k (GET s y i j)) R = unique-other (λ o x v c e. clash (cc)) (run-unique r h₁ W₁ k R)
 run-unique r h W (more {h = h₁} {W = W₁} k (LOOK s y i j)) R = unique-other (λ o x v c e. clash (cc)) (run-unique r h₁ W₁ k R)
 run-unique r h W (more {h = h₁} {W = W₁} k (ADOPT s y i j)) R = unique-other (λ o x v c e. clash (cc)) (run-unique r h₁ W₁ k R)
+run-unique r h W (more {h = h₁} {W = W₁} k (RETIRE s i)) R = unique-other (λ o x v c e. clash (cc)) (run-unique r h₁ W₁ k R)
 run-unique r h W (more {h = h₁} {W = W₁} k (UPDATE s o b i j d e f g)) R = unique-other (λ o x v c e. clash (cc)) (run-unique r h₁ W₁ k R)
 
 -- ## Causes of a put, as its beginning of the history has them
@@ -102,6 +103,7 @@ ranking-right r H U C h W (more {h = h₁} {W = W₁} k (PUT s x v p q)) sub =
 ranking-right r H U C h W (more {h = h₁} {W = W₁} k (GET s x p q)) sub = ranking-right r H U C h₁ W₁ k (λ p e i. sub p e (inr i))
 ranking-right r H U C h W (more {h = h₁} {W = W₁} k (LOOK s x p q)) sub = ranking-right r H U C h₁ W₁ k (λ p e i. sub p e (inr i))
 ranking-right r H U C h W (more {h = h₁} {W = W₁} k (ADOPT s x p q)) sub = ranking-right r H U C h₁ W₁ k (λ p e i. sub p e (inr i))
+ranking-right r H U C h W (more {h = h₁} {W = W₁} k (RETIRE s p)) sub = ranking-right r H U C h₁ W₁ k (λ p e i. sub p e (inr i))
 ranking-right r H U C h W (more {h = h₁} {W = W₁} k (UPDATE s o b p q d e f g)) sub = ranking-right r H U C h₁ W₁ k (λ p e i. sub p e (inr i))
 
 pub only : {n k : ℕ} (r : Ranks) (h : History) (W : World) → Run n k h W → Right r (W .updates)

@@ -3,7 +3,7 @@ use mathlib.Core.Path.{sym, _≡_, refl, subst}
 use mathlib.Core.Logic.{inl, inr}
 use Prim.Native.Nat.{ℕ, _<_}
 use native.Mathlib.Omega.{arith}
-use Rattle.causal.specs.World.{Step, World, nth, due, Event, put, update, PUT, GET, LOOK, ADOPT, UPDATE, Run, begin, more}
+use Rattle.causal.specs.World.{Step, World, nth, due, Event, put, update, PUT, GET, LOOK, ADOPT, UPDATE, RETIRE, Run, begin, more}
 use Rattle.clock.specs.Lists.{_∈_, Before}
 use Rattle.causal.specs.History.{History, Ranks, Cause, direct, deeper, Ranking, Ordered}
 use Rattle.causal.proofs.Updates.{clash, Issued}
@@ -26,6 +26,7 @@ put-below (GET t y p q) o x v c e = clash (cc)
 put-below (LOOK t y p q) o x v c e = clash (cc)
 put-below (ADOPT t y p q) o x v c e = clash (cc)
 put-below (UPDATE t o₁ b p q d f g i) o x v c e = clash (cc)
+put-below (RETIRE t p) o x v c e = clash (cc)
 
 pub put-site-below : {n k : ℕ} (h : History) (W : World) → Run n k h W → (o x v c : ℕ) → put o x v c ∈ h → o < n
 put-site-below h W r o x v c q = put-below (labels h W r (put o x v c) q .2) o x v c refl
@@ -63,6 +64,8 @@ handed r h W (more k (LOOK t y p p′)) R s o c x v (inl q) = clash (cc)
 handed r h W (more k (LOOK t y p p′)) R s o c x v (inr q) = inr (handed r _ _ k R s o c x v q)
 handed r h W (more k (ADOPT t y p p′)) R s o c x v (inl q) = clash (cc)
 handed r h W (more k (ADOPT t y p p′)) R s o c x v (inr q) = inr (handed r _ _ k R s o c x v q)
+handed r h W (more k (RETIRE t p)) R s o c x v (inl q) = clash (cc)
+handed r h W (more k (RETIRE t p)) R s o c x v (inr q) = inr (handed r _ _ k R s o c x v q)
 handed r h W (more {h = h₁} {W = W₁} k (UPDATE t o₁ b p p′ d f g i)) R s o c x v (inl q) =
     inl (q, subst (λ (z : Event). z ∈ h₁) (cc) (inv r h₁ W₁ k R .holds o₁ (due W₁ t o₁) (omega arith, f)))
 handed r h W (more k (UPDATE t o₁ b p p′ d f g i)) R s o c x v (inr q) = inr (handed r _ _ k R s o c x v q)

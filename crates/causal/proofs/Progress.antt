@@ -6,7 +6,7 @@ use Prim.Native.Nat.{ℕ, _≤_, _<_}
 use native.Mathlib.Omega.{arith}
 use native.Mathlib.Decide.{decLe}
 use Rattle.clock.proofs.Maps.{eq?}
-use Rattle.causal.specs.World.{Behind, CausesApplied, World, nth, due, Event, put, get, look, adopt, update, Run}
+use Rattle.causal.specs.World.{Behind, CausesApplied, World, nth, due, Event, put, get, look, adopt, update, retire, Run}
 use Rattle.clock.specs.Lists.{_∈_}
 use Rattle.causal.specs.History.{CausalRun, History, Ranks, Lacks}
 use Rattle.causal.proofs.Updates.{clash, Issued}
@@ -56,6 +56,7 @@ first W s (put t y w b ∷ h) p = go (first W s h (p .1)) (decLe b (W .applied s
         inr (record { o = t; x = y; v = w; c = b; put-there = inl refl; lacked = omega arith; ready = λ o′ c′ k. let r = p .0 t y w b o′ c′ refl k in f o′ (r .0) (r .1) c′ (r .2) })
 first W s (get t y a ∷ h) p = skip (λ o x v c q. clash (cc)) (first W s h (p .1))
 first W s (look t y a ∷ h) p = skip (λ o x v c q. clash (cc)) (first W s h (p .1))
+first W s (retire t ∷ h) p = skip (λ o x v c q. clash (cc)) (first W s h (p .1))
 first W s (adopt t y a ∷ h) p = skip (λ o x v c q. clash (cc)) (first W s h (p .1))
 first W s (update t o b y w ∷ h) p = skip (λ o₁ x v c q. clash (cc)) (first W s h (p .1))
 

@@ -10,14 +10,14 @@ use lib.ListN.{length, length-append}
 use borrow.Author.Tests.{eqb-true, eq-eqb}
 use Rattle.clock.specs.Map.{if_then_else_, _⟨_≔_⟩}
 use Rattle.clock.proofs.Maps.{choice, at-same}
-use Rattle.causal.specs.World.{Set, Rank, just, _∪_, Update, Answer, never, wrote, Entry, World, nth, learned, withPut, Event, put, PUT, GET, LOOK, ADOPT, UPDATE, Run, begin, more}
+use Rattle.causal.specs.World.{Set, Rank, just, _∪_, Update, Answer, never, wrote, Entry, World, nth, learned, withPut, Event, put, PUT, GET, LOOK, ADOPT, UPDATE, RETIRE, Run, begin, more}
 use Rattle.clock.specs.Lists.{_∈_}
 use Rattle.causal.specs.History.{History, Names, Saw, Write, op, order, Ranks, higher, Came, Takes, Cause, direct, deeper}
 use Rattle.causal.proofs.Updates.{next, Updates, Issued, Closed, learned-is, learned-put, learned-set, Extends, closed-more, nth-at, extends, newest, each-update}
 use Rattle.causal.proofs.Sites.{Site, SiteOf, held-issued, _↑_, up-more, write-site, learn-closed, learn-have, more-site}
 use Rattle.causal.proofs.Ranking.{rank-lt}
 use Rattle.causal.proofs.Higher.{Right, higher-new}
-use Rattle.causal.proofs.Invariant.{Past, Inv, Known, cause-more, known-more, at-just, put-top, inv-start, inv-look, inv-adopt, inv-get, inv-update, issued, put-inj}
+use Rattle.causal.proofs.Invariant.{Past, Inv, Known, cause-more, known-more, at-just, put-top, inv-start, inv-look, inv-adopt, inv-get, inv-retire, inv-update, issued, put-inj}
 
 past-more : (u v : Updates) (h : History) → Extends u v → ((o x w c : ℕ) → put o x w c ∈ h → Issued u o c) → Past u h → Past v h
 unfolding Past
@@ -250,4 +250,5 @@ inv r h W (more {h = h₁} {W = W₁} k (PUT s x v p q)) R = inv-put r h₁ W₁
 inv r h W (more {h = h₁} {W = W₁} k (GET s x p q)) R = inv-get r h₁ W₁ s x (inv r h₁ W₁ k R)
 inv r h W (more {h = h₁} {W = W₁} k (LOOK s x p q)) R = inv-look r h₁ W₁ s x (inv r h₁ W₁ k R)
 inv r h W (more {h = h₁} {W = W₁} k (ADOPT s x p q)) R = inv-adopt r h₁ W₁ s x (inv r h₁ W₁ k R)
+inv r h W (more {h = h₁} {W = W₁} k (RETIRE s p)) R = inv-retire r h₁ W₁ s (inv r h₁ W₁ k R)
 inv r h W (more {h = h₁} {W = W₁} k (UPDATE s o b p q d e f g)) R = inv-update r h₁ W₁ s o d e f (inv r h₁ W₁ k R) R b g

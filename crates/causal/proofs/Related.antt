@@ -13,12 +13,13 @@ use Rattle.clock.specs.Vector.{Vector}
 use Rattle.clock.proofs.Maps.{choice, eq?, related, related₂}
 use Rattle.layout.specs.State.{State, Entry, Update, withDepends}
 use Rattle.rules.specs.Engine.{taken-on, outranks, ours}
+use Rattle.rules.specs.Live.{Live}
 use Rattle.rules.specs.Sound.{place, Retained, Sound}
 use Rattle.rules.specs.Steps as r
 use Rattle.rules.specs.Steps.{learn}
-use Rattle.laws.proofs.Ready.{PutReady, GetReady, DeliverReady}
+use Rattle.laws.proofs.Ready.{gets-too, RetireReady, PutReady, GetReady, DeliverReady}
 use Rattle.laws.proofs.Ranks.{outranks-says}
-use Rattle.laws.proofs.Keeps.{deliver-own, deliver-behind, deliver-waiting, deliver-retained, get-origin, put-retained, put-stands}
+use Rattle.laws.proofs.Keeps.{retire-retained, deliver-own, deliver-behind, deliver-waiting, deliver-retained, get-origin, put-retained, put-stands}
 use Rattle.causal.specs.World as w
 use Rattle.causal.specs.World.{Set, just, _∪_, Tops, World, never, wrote, nth, learned, withPut, withGet, withUpdate, Replaces, Behind, CausesApplied}
 use Rattle.causal.specs.Refines.{answer, Abstracts}
@@ -43,9 +44,9 @@ written v o c c′ e =
 -- ## Deliver
 
 -- the update that is due
-module _ (S : State) (D : Sound S) (s o : ℕ) (hs : s < S .n) (ho : o < S .n) (W : World) (A : Abstracts S W) where
+module _ (S : State) (D : Sound S) (s o : ℕ) (hs : Live S s) (ho : o < S .n) (W : World) (A : Abstracts S W) where
   pub same-count : (W .applied s o ≡ S .applied s o) × (length (W .updates o) ≡ S .applied o o)
-  same-count = (A .applied s o hs (omega (arith, D .sites .1)), A .count o ho)
+  same-count = (A .applied s o (hs .0) (omega (arith, D .sites .1)), A .count o ho)
 
   pub same-due : Behind W s o ↔ (S .applied s o < S .applied o o)
   same-due = let e = same-count in ((λ h. omega arith), λ h. omega arith)
@@ -61,8 +62,8 @@ module _ (S : State) (D : Sound S) (s o : ℕ) (hs : s < S .n) (ho : o < S .n) (
     same-check =
         let T = same-waiting .2 in
         let C = same-answers _ _ T .check (S .applied s) in (
-          (λ f. C .0 (λ o′ c′ m. omega (arith, f o′ c′ m, A .applied s o′ hs (T .eight o′ c′ m)))),
-          λ f o′ c′ m. omega (arith, C .1 f o′ c′ m, A .applied s o′ hs (T .eight o′ c′ m)),
+          (λ f. C .0 (λ o′ c′ m. omega (arith, f o′ c′ m, A .applied s o′ (hs .0) (T .eight o′ c′ m)))),
+          λ f o′ c′ m. omega (arith, C .1 f o′ c′ m, A .applied s o′ (hs .0) (T .eight o′ c′ m)),
         )
 
 -- the test of an update's rank says what figure 7 says of its set
@@ -93,10 +94,10 @@ module _ (S : State) (s o : ℕ) (R : DeliverReady S s o) (W : World) (A : Abstr
   u′ = w.waiting W s o
 
   waits : SameUpdate u u′
-  waits = same-waiting S (R .sound) s o (R .site) (R .origin) W A (deliver-behind S s o R)
+  waits = same-waiting S (R .sound) s o (R .site, R .live) (R .origin) W A (deliver-behind S s o R)
 
   pub deliver-next : w.due W s o ≡ r.next S s o
-  deliver-next = ap suc (same-count S (R .sound) s o (R .site) (R .origin) W A .0)
+  deliver-next = ap suc (same-count S (R .sound) s o (R .site, R .live) (R .origin) W A .0)
 
   pub deliver-numbers : r.deliver ours S s o .answer ≡ r.done (u′ .key) o (w.due W s o) (u′ .value)
   unfolding r.deliver
@@ -195,7 +196,7 @@ module _ (S : State) (s x v : ℕ) (R : PutReady S s x) (W : World) (A : Abstrac
 
   -- "first takes on the dependence of the entry it overwrites"
   put-row : Tops (ours .sent (S .depends s) (S .store s x)) (new .depends)
-  put-row = get-row S s x (record { sound = R .sound; site = R .site; key = R .key }) W A
+  put-row = get-row S s x (gets-too R) W A
 
   put-count : (o : ℕ) → o < S .n → length (W′ .updates o) ≡ T .applied o o
   unfolding r.put
@@ -238,3 +239,17 @@ module _ (S : State) (s x v : ℕ) (R : PutReady S s x) (W : World) (A : Abstrac
         count = put-count;
         updates = put-update;
       }
+
+-- ## Retire
+
+pub retire-related : (S : State) (s : ℕ) → RetireReady S s → (W : World) → Abstracts S W → Abstracts (r.retire S s .after) W
+unfolding r.retire
+retire-related S s R W A =
+    record {
+      applied = A .applied;
+      depends = A .depends;
+      answers = A .answers;
+      store = A .store;
+      count = A .count;
+      updates = λ o c p k. A .updates o c p (retire-retained S s R o c k);
+    }

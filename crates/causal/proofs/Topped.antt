@@ -8,7 +8,7 @@ use lib.ListN.{length}
 use Rattle.clock.specs.Map.{_⟨_≔_⟩, _⟨_⟩⟨_≔_⟩}
 use Rattle.clock.specs.Vector.{Vector, rank}
 use Rattle.clock.proofs.Maps.{choice, at-is₂, at-same}
-use Rattle.causal.specs.World.{Set, ∅, just, _∪_, Tops, Rank, Answer, never, wrote, World, learned, PUT, GET, LOOK, ADOPT, UPDATE, Run, begin, more}
+use Rattle.causal.specs.World.{Set, ∅, just, _∪_, Tops, Rank, Answer, never, wrote, World, learned, PUT, GET, LOOK, ADOPT, UPDATE, RETIRE, Run, begin, more}
 use Rattle.causal.specs.History.{History, Names, Ranks}
 use Rattle.causal.proofs.Updates.{next, each-update}
 use Rattle.causal.proofs.Sites.{held-issued}
@@ -75,6 +75,7 @@ all-ranked b h W (more {h = h₁} {W = W₁} l (PUT s x v p q)) =
 all-ranked b h W (more {h = h₁} {W = W₁} l (GET s x p q)) =
     let A = all-ranked b h₁ W₁ l in record { ranks = A .ranks; right = A .right; rows = got-ranked b l A s x }
 all-ranked b h W (more {h = h₁} {W = W₁} l (LOOK s x p q)) = all-ranked b h₁ W₁ l
+all-ranked b h W (more {h = h₁} {W = W₁} l (RETIRE s p)) = all-ranked b h₁ W₁ l
 all-ranked b h W (more {h = h₁} {W = W₁} l (ADOPT s x p q)) =
     let A = all-ranked b h₁ W₁ l in record { ranks = A .ranks; right = A .right; rows = got-ranked b l A s x }
 all-ranked b h W (more {h = h₁} {W = W₁} l (UPDATE s o i p q d e f g)) =

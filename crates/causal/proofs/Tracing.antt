@@ -2,38 +2,40 @@
 use mathlib.Core.Path.{_≡_, refl, sym, ap, subst, _∙_}
 use mathlib.Core.Bool.{Bool, true, false, _||_}
 use mathlib.Core.List.{List, [], _∷_, _++_, map}
-use mathlib.Core.Logic.{⊎-elim, _≢_}
+use mathlib.Core.Logic.{inl, inr, ⊎-elim, _≢_, _↔_}
 use Prim.Native.Nat.{ℕ, zero, suc, _≤_, _<_}
 use native.Mathlib.Omega.{arith}
 use lib.Dec.{eqb}
 use borrow.Author.Tests.{eq-eqb, ne-eqb}
-use Rattle.clock.specs.Map.{if_then_else_}
-use Rattle.clock.specs.Lists.{_∈_}
+use Rattle.clock.specs.Map.{if_then_else_, bit}
+use Rattle.clock.specs.Lists.{_∈_, Before}
 use Rattle.clock.specs.Vector.{rank}
 use Rattle.clock.proofs.Maps.{eq?}
 use Rattle.layout.specs.State.{State}
 use Rattle.rules.specs.Engine.{Engine, ours}
+use Rattle.rules.specs.Live.{Live}
 use Rattle.rules.specs.Sound.{place, Retained, Sound}
 use Rattle.rules.specs.Touch.{touched}
 use Rattle.rules.specs.Refusals.{first}
 use Rattle.rules.specs.Steps as r
 use Rattle.rules.specs.Steps.{Numbers, Outcome, opened}
 use Rattle.rules.specs.Drain.{drained, drain}
-use Rattle.rules.specs.Calls.{Call, Open, Put, Get, Deliver, Drain, Cold, Touch, Look, Adopt, refusals, step, run}
+use Rattle.rules.specs.Calls.{Call, Open, Put, Get, Deliver, Drain, Cold, Touch, Look, Adopt, Retire, refusals, step, run}
 use Rattle.laws.specs.Theorems.{Delivers, start, one-more}
-use Rattle.laws.proofs.Ready.{OpenReady, GetReady, open-ready, put-ready, get-ready, drain-ready, cold-ready, touch-ready}
+use Rattle.laws.proofs.Ready.{gets-too, OpenReady, GetReady, open-ready, put-ready, get-ready, drain-ready, cold-ready, touch-ready}
+use Rattle.laws.proofs.Bits.{bit-none}
 use Rattle.laws.proofs.Given.{no-eleven, run-cases, run-accepted, run-refused}
 use Rattle.laws.proofs.Keeps.{open-sound}
 use Rattle.laws.proofs.Codes.{accepted-first}
 use Rattle.laws.proofs.Touching.{learn-apart, apart-ready}
 use Rattle.laws.proofs.Draining.{drained-code, drain-delivers}
 use Rattle.laws.proofs.Turns.{drain-ends}
-use Rattle.laws.proofs.After.{counts-kept}
-use Rattle.causal.specs.World.{Answer, World, Event, put, get, look, update, LOOK, Run, begin, more}
+use Rattle.laws.proofs.After.{counts-kept, retired-kept}
+use Rattle.causal.specs.World.{Answer, World, Event, put, get, look, update, retire, acting, LOOK, Run, begin, more}
 use Rattle.causal.specs.History.{History, Names, Ranks, Lacks, CausalRun}
 use Rattle.causal.specs.Refines.{Abstracts, Refines, found, looked, after-call, Causal}
 use Rattle.causal.proofs.Meaning.{open-abstracts}
-use Rattle.causal.proofs.Following.{puts, gets, looks, adopts, delivers}
+use Rattle.causal.proofs.Following.{puts, gets, looks, adopts, delivers, retires}
 use Rattle.causal.proofs.Handed.{in-right}
 use Rattle.causal.proofs.Sites.{held-issued}
 use Rattle.causal.proofs.Ranking.{rank-same, rank-one}
@@ -47,6 +49,20 @@ pub record Traced (S : State) (h : History) : Type 1 where
   pub leads : Run (S .n) (S .k) h world
   pub related : Abstracts S world
   pub sound : Sound S
+  pub alive : (s : ℕ) → Live S s ↔ ((s < S .n) × (retire s ∈ h → ⊥))
+  pub quiet : (s : ℕ) (e : Event) → Before h (retire s) e → acting e ≢ s
+
+-- an event of a live site: who is live afterwards, and that retired sites stay quiet
+module _ {S : State} {h : History} (T : Traced S h) (e : Event) where
+  still-alive : (R : State) → R .n ≡ S .n → ((t : ℕ) → Live R t ↔ (Live S t × (e ≢ retire t))) → (t : ℕ) → Live R t ↔ ((t < R .n) × (retire t ∈ (e ∷ h) → ⊥))
+  still-alive R n f t = (
+    (λ l. let k = f t .0 l in (l .0, ⊎-elim (λ q. k .1 (sym q)) (T .alive t .0 (k .0) .1))),
+    λ l. f t .1 (T .alive t .1 (omega (arith, l .0), λ q. l .1 (inr q)), λ q. l .1 (inl (sym q))),
+  )
+
+  still-quiet : Live S (acting e) → (s : ℕ) (f : Event) → Before (e ∷ h) (retire s) f → acting f ≢ s
+  still-quiet l s f (inl (p, q)) = λ k. T .alive (acting e) .0 l .1 (subst (λ (t : ℕ). retire t ∈ h) (sym k ∙ ap acting p) q)
+  still-quiet l s f (inr b) = T .quiet s f b
 
 -- ## Put, get, look, adopt and deliver
 
@@ -59,7 +75,14 @@ single {S} {h} T c other none R =
     (λ z.
     let Q = R .accepted z in
     let e = counts-kept ours S c other in
-    record { world = Q .world; leads = rw (e .0, e .1, Q .call h) (more (T .leads) (Q .step)); related = Q .abstracts; sound = Q .sound })
+    rw (Q .call h) (record {
+      world = Q .world;
+      leads = rw (e .0, e .1) (more (T .leads) (Q .step));
+      related = Q .abstracts;
+      sound = Q .sound;
+      alive = still-alive T (Q .event) (run ours S c .after) (e .0) (Q .live);
+      quiet = still-quiet T (Q .event) (Q .acts);
+    }))
     (λ z. rw (R .refused z, none (run ours S c .answer) z) T)
     (eq? (run ours S c .answer .code) 0)
 
@@ -88,6 +111,11 @@ module _ {S : State} {h : History} (T : Traced S h) where
   deliver-traced s o =
       single T (Deliver s o) (λ n k e. clash (cc)) (λ a z. rw (ne-eqb (a .code) 0 z))
       (delivers S (T .sound) (T .world) (T .related) s o)
+
+  retire-traced : (s : ℕ) → Traced (run ours S (Retire s) .after) (after-call ours S (Retire s) (run ours S (Retire s) .answer) h)
+  retire-traced s =
+      single T (Retire s) (λ n k e. clash (cc)) (λ a z. rw (ne-eqb (a .code) 0 z))
+      (retires S (T .sound) (T .world) (T .related) s)
 
 -- ## Drain
 
@@ -142,34 +170,44 @@ touch-traced {S} {h} T s x now u w =
     let P = touch-ready S s x now u w z .put in
     let L = r.learn ours S s x in
     let v = touched (S .store s x .value) now u w in
-    let T₁ = got-traced T s x (record { sound = P .sound; site = P .site; key = P .key }) in
+    let T₁ = got-traced T s x (gets-too P) in
     let y = accepted-first ours L (Put s x v) refl .1 (put-ready L s x .1 (apart-ready (learn-apart ours S s x) P)) in
     subst (λ (o : Outcome). Traced (o .after) (after-call ours L (Put s x v) (o .answer) (get s x (found S s x) ∷ h))) (run-accepted ours L (Put s x v) y .1) (put-traced T₁ s x v))
     (λ a z. rw (ne-eqb (a .code) 0 z))
 
 -- looks, key by key
-looked-traced : {S : State} {h : History} → Traced S h → (s m : ℕ) → s < S .n → m ≤ S .k → Traced S (looked S s m h)
+looked-traced : {S : State} {h : History} → Traced S h → (s m : ℕ) → Live S s → m ≤ S .k → Traced S (looked S s m h)
 looked-traced T s zero p q = T
 looked-traced {S} {h} T s (suc m) p q =
     let T₁ = looked-traced T s m p (omega arith) in
     record {
       world = T₁ .world;
-      leads = subst (λ (a : Answer). Run (S .n) (S .k) (look s m a ∷ looked S s m h) (T₁ .world)) (T₁ .related .answers s m p q) (more (T₁ .leads) (LOOK s m p q));
+      leads = subst (λ (a : Answer). Run (S .n) (S .k) (look s m a ∷ looked S s m h) (T₁ .world)) (T₁ .related .answers s m (p .0) q) (more (T₁ .leads) (LOOK s m (p .0) q));
       related = T₁ .related;
       sound = T₁ .sound;
+      alive = still-alive T₁ (look s m (found S s m)) S refl (λ t. ((λ l. (l, λ e. clash (cc))), λ l. l .0));
+      quiet = still-quiet T₁ (look s m (found S s m)) p;
     }
 
 cold-traced : {S : State} {h : History} → Traced S h → (s now U m : ℕ)
     → Traced (run ours S (Cold s now U m) .after) (after-call ours S (Cold s now U m) (run ours S (Cold s now U m) .answer) h)
 unfolding step r.cold
 cold-traced {S} T s now U m =
-    stepped T (Cold s now U m) (λ z. looked-traced T s (S .k) (cold-ready S s now U m z .site) (omega arith)) (λ a z. rw (ne-eqb (a .code) 0 z))
+    stepped T (Cold s now U m) (λ z. let R = cold-ready S s now U m z in looked-traced T s (S .k) (R .site, R .live) (omega arith)) (λ a z. rw (ne-eqb (a .code) 0 z))
 
 -- ## Any call
 
 pub open-traced : (n k : ℕ) → OpenReady n k → Traced (opened n k) []
 unfolding opened
-open-traced n k R = record { world = _; leads = begin; related = open-abstracts n k; sound = open-sound n k R }
+open-traced n k R =
+    record {
+      world = _;
+      leads = begin;
+      related = open-abstracts n k;
+      sound = open-sound n k R;
+      alive = λ s. ((λ l. (l .0, λ q. q)), λ l. (l .0, bit-none s));
+      quiet = λ s e b. absurd b;
+    }
 
 -- the step of an opening or of a drain of which no condition holds, and a refusal
 opening-traced : {S : State} {h : History} → Traced S h → (n k : ℕ) → Traced (run ours S (Open n k) .after) (after-call ours S (Open n k) (run ours S (Open n k) .answer) h)
@@ -205,6 +243,7 @@ run-traced T (Cold s now U m) = cold-traced T s now U m
 run-traced T (Touch s x now u w) = touch-traced T s x now u w
 run-traced T (Look s x) = look-traced T s x
 run-traced T (Adopt s x o c) = adopt-traced T s x o c
+run-traced T (Retire s) = retire-traced T s
 
 -- ## Demand 3
 
@@ -231,7 +270,7 @@ module _ {S : State} {h : History} (T : Traced S h) where
   traced-updates o c p R =
       rank-one _ _ _ (right o c (omega (arith, R .lacks), omega (arith, R .made, T .related .count o p))) (_, T .related .updates o c p R .2, refl)
 
-  traced-live : (s o x v c : ℕ) → s < S .n → put o x v c ∈ h → Lacks h s o c → (o′ : ℕ) × (run ours S (Deliver s o′) .answer .code ≡ 0)
+  traced-live : (s o x v c : ℕ) → Live S s → put o x v c ∈ h → Lacks h s o c → (o′ : ℕ) × (run ours S (Deliver s o′) .answer .code ≡ 0)
   traced-live s o x v c p q l =
       let e = causal .live s o x v c q l in
       (e .0, delivers S (T .sound) (T .world) (T .related) s (e .0) .exactly .1 (p, e .1, e .2, e .3, e .4))
@@ -243,7 +282,10 @@ traced-drains {S} {h} T s b o x v c z q l =
     let k = run-accepted ours S (Drain s b) z in
     let m : Lacks (map (delivered s) (drained ours S s b .made) ++ h) s o c = rw (eq-eqb (run ours S (Drain s b) .answer .code) 0 z) at l in
     let n : drain ours S s b .after .n ≡ S .n = subst (λ (x : Outcome). x .after .n ≡ S .n) (k .1) (counts-kept ours S (Drain s b) (λ n k e. clash (cc)) .0) in
-    let e = traced-live (drain-traced T s b) s o x v c (omega (arith, drain-ready S s .0 (k .0) .site)) (in-right (put o x v c) (map (delivered s) (drained ours S s b .made)) h q) m in
+    let g : drain ours S s b .after .retired ≡ S .retired =
+    subst (λ (x : Outcome). x .after .retired ≡ S .retired) (k .1) (retired-kept ours S (Drain s b) (λ n k e. clash (cc)) (λ t e. clash (cc))) in
+    let R = drain-ready S s .0 (k .0) in
+    let e = traced-live (drain-traced T s b) s o x v c (omega (arith, R .site), ap (λ (r : ℕ). bit r s) g ∙ R .live) (in-right (put o x v c) (map (delivered s) (drained ours S s b .made)) h q) m in
     drain-ends ours S s b (subst (λ (x : Outcome). x .answer .code ≡ 0) (k .1) z) (e .0) (e .1)
 
 pub traced-causal : {S : State} {h : History} → Traced S h → Causal S (λ c. run ours S c .answer) h
@@ -254,6 +296,8 @@ traced-causal T =
       entries = traced-entries T;
       updates = traced-updates T;
       orders = λ s p. causal T .orders s;
+      alive = T .alive;
+      quiet = T .quiet;
       live = traced-live T;
       drains = traced-drains T;
     }

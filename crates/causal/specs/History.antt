@@ -7,7 +7,7 @@ use Prim.Native.Nat.{ℕ, _<_}
 use lib.Dec.{eqb, ltb, leb}
 use Rattle.clock.specs.Map.{if_then_else_}
 use Rattle.clock.specs.Lists.{_∈_, Before}
-use Rattle.causal.specs.World.{Rank, Answer, never, wrote, World, nth, Behind, CausesApplied, Event, put, get, look, adopt, update}
+use Rattle.causal.specs.World.{Rank, Answer, never, wrote, World, nth, Behind, CausesApplied, Event, put, get, look, adopt, update, retire}
 
 -- the newest event stands first
 abbrev pub History : Type 0
@@ -25,6 +25,7 @@ Saw (get t x a) s o c = (t ≡ s) × Names a o c
 Saw (look t x a) s o c = ⊥
 Saw (adopt t x a) s o c = (t ≡ s) × Names a o c
 Saw (update t o′ c′ x v) s o c = ⊥
+Saw (retire t) s o c = ⊥
 
 -- what a single ordinary table is asked
 pub data Op : Type 0 where
@@ -38,6 +39,7 @@ op s (get t x a) = if eqb t s then Read x a ∷ [] else []
 op s (look t x a) = if eqb t s then Read x a ∷ [] else []
 op s (adopt t x a) = []
 op s (update t o c x v) = if eqb t s then Write o c x v ∷ [] else []
+op s (retire t) = []
 
 unfoldable pub order : ℕ → History → List Op
 order s [] = []

@@ -1,5 +1,5 @@
 -- Chapar's figure 7: worlds (its tuples, as maps by site), labels, and the rules PUT, GET and UPDATE, without the clients' statements;
--- GET in two, LOOK and ADOPT; and PUT and UPDATE as request (e) amends them, with ranks. Assumes nothing.
+-- GET in two, LOOK and ADOPT; PUT and UPDATE as request (e) amends them, with ranks; and RETIRE. Assumes nothing.
 use mathlib.Core.Path.{_≡_}
 use mathlib.Core.Bool.{Bool, true}
 use mathlib.Core.List.{List, [], _∷_, _++_}
@@ -120,6 +120,16 @@ pub data Event : Type 0 where
   look : (site key : ℕ) → Answer → Event
   adopt : (site key : ℕ) → Answer → Event
   update : (site origin clock key value : ℕ) → Event
+  retire : (site : ℕ) → Event
+
+-- the site that acts; of an update, the receiver
+abbrev pub acting : Event → ℕ
+acting (put s x v c) = s
+acting (get s x a) = s
+acting (look s x a) = s
+acting (adopt s x a) = s
+acting (update s o c x v) = s
+acting (retire s) = s
 
 -- one step of n sites and k keys
 pub data Step (n k : ℕ) (W : World) : Event → World → Type 1 where
@@ -131,6 +141,8 @@ pub data Step (n k : ℕ) (W : World) : Event → World → Type 1 where
   UPDATE : (s o : ℕ) (b : Bool) → s < n → o < n → s ≢ o → Behind W s o → CausesApplied W s o
       → (let u = waiting W s o in let e = W .store s (u .key) in (b ≡ true) ↔ Replaces o (u .depends) (e .answer) (e .depends))
       → Step n k W (update s o (due W s o) (waiting W s o .key) (waiting W s o .value)) (withUpdate W s o b)
+  -- no step of figure 7: the history says who is live
+  RETIRE : (s : ℕ) → s < n → Step n k W (retire s) W
 
 -- before any step
 abbrev pub start : World

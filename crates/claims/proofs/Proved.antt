@@ -9,11 +9,12 @@ use Rattle.rules.specs.Cases.{Case, cases, starred, starred-short}
 use Rattle.rules.specs.TouchCases.{parts, forms, kinds, touches, touched-so, listed-so, words-first}
 use Rattle.rules.specs.LookCases.{looks, looked-so}
 use Rattle.rules.specs.RankCases.{ranks, ranked-so}
+use Rattle.rules.specs.RetireCases.{retirements, retired-so}
 use Rattle.rules.specs.ShortCases.{long-chain, short-chain, shorts, short-so}
 use Rattle.rules.specs.Bounds.{bounds, at-bounds}
 use Rattle.rules.specs.SoundCases.{fact-by-fact}
 use Rattle.laws.proofs.Tested.{sound-tested}
-use Rattle.laws.proofs.After.{accepted-sound, keeps-sound}
+use Rattle.laws.proofs.After.{accepted-sound, keeps-sound, retired-kept}
 use Rattle.laws.proofs.Given.{codes-listed, follows-order}
 use Rattle.laws.proofs.Records.{touch-back, formed-exactly, age-adds, aged-exactly, kind-exactly, touched-says, kinds-listed, list-filled}
 use Rattle.laws.proofs.Touches.{cold-answers, touch-is-both, scan-keeps-coldness}
@@ -24,6 +25,7 @@ use Rattle.laws.proofs.Turns.{drain-ends}
 use Rattle.laws.proofs.Tries.{drain-rises, tries-bounded, pending-bounded, budget-enough}
 use Rattle.laws.proofs.Fitting.{ours-fits, short-fits}
 use Rattle.laws.proofs.Sharing.{engine-free}
+use Rattle.laws.proofs.Retiring.{retire-retires, retire-bytes, nothing-lost}
 use Rattle.causal.proofs.Progress.{run-causal}
 use Rattle.causal.proofs.Vectors.{same-answers}
 use Rattle.causal.proofs.Handed.{applied-exactly}
@@ -33,14 +35,14 @@ use Rattle.demands.proofs.Proved.{demand1, demand2, demand3}
 use Rattle.demands.proofs.Agreed.{agreement}
 use Rattle.demands.proofs.Stores.{one-winner, drained-equal}
 use Rattle.demands.proofs.Drained.{nothing-delivered}
-use Rattle.demands.proofs.Schedule.{history, history-looking, history-adopting, history-winning, causal}
-use Rattle.table.specs.NoSecond.{open-no-second, put-no-second, get-no-second, look-no-second, adopt-no-second, deliver-no-second, drain-no-second, touch-no-second}
+use Rattle.demands.proofs.Schedule.{history, history-looking, history-adopting, history-winning, history-closing, causal}
+use Rattle.answers.specs.NoSecond.{open-no-second, put-no-second, get-no-second, look-no-second, adopt-no-second, deliver-no-second, drain-no-second, touch-no-second, retire-no-second}
 use Rattle.cold.specs.NoSecond.{cold-no-second}
-use Rattle.forkcanyon.specs.NoSecond.{fc-open-no-second, fc-put-no-second, fc-get-no-second, fc-look-no-second, fc-adopt-no-second, fc-deliver-no-second, fc-drain-no-second, fc-touch-no-second}
+use Rattle.forkcanyon.specs.NoSecond.{fc-open-no-second, fc-put-no-second, fc-get-no-second, fc-look-no-second, fc-adopt-no-second, fc-deliver-no-second, fc-drain-no-second, fc-touch-no-second, fc-retire-no-second}
 use Rattle.forkcanyon.specs.ShortNoSecond.{fc-short-put-no-second, fc-short-get-no-second, fc-short-adopt-no-second, fc-short-touch-no-second, fc-short-deliver-no-second, fc-short-drain-no-second}
 use Rattle.forkcanyon.specs.ColdNoSecond.{fc-cold-no-second}
 use Rattle.table.specs.Worked as worked
-use Rattle.forkcanyon.specs.Worked as replies
+use Rattle.reply.specs.Worked as replies
 use Rattle.forkcanyon.proofs.Sizes.{wrong-reply, wrong-table, size-exactly, cold-hosts, list-written}
 use Rattle.schedule.specs.Theorems.{play-no-second, written-no-second}
 use Rattle.schedule.proofs.Rest.{rest-ignored, always-ends}
@@ -66,6 +68,10 @@ five : length shorts ≡ 5
 unfolding shorts
 five = refl
 
+six : length retirements ≡ 6
+unfolding retirements
+six = refl
+
 six-ranks : length ranks ≡ 6
 unfolding ranks
 six-ranks = refl
@@ -76,6 +82,7 @@ claims =
       demands = record { one = demand1 ours ours-fits; nothing-delivered = nothing-delivered; two = demand2; three = demand3 };
       stores = record { one-winner = one-winner; drained = drained-equal };
       engines = record { agreement = agreement; one-short = demand1 short short-fits; engine-free = engine-free };
+      retirement = record { retires = retire-retires; in-bytes = retire-bytes; kept = retired-kept; nothing-lost = nothing-lost };
       histories =
           record {
             every-run = run-causal;
@@ -86,6 +93,7 @@ claims =
             schedule = λ t size. (history t size, causal t size);
             looking = history-looking;
             adopting = history-adopting;
+            closing = history-closing;
             winning = history-winning;
           };
       outcomes =
@@ -97,6 +105,8 @@ claims =
             adopts = adopt-no-second;
             delivers = deliver-no-second;
             drains = drain-no-second;
+            retires = retire-no-second;
+            fc-retire = fc-retire-no-second;
             fc-open = fc-open-no-second;
             fc-put = fc-put-no-second;
             fc-get = fc-get-no-second;
@@ -127,6 +137,7 @@ claims =
             records = (parts, forms, kinds, listed-so, words-first);
             looks = (looked-so, eight);
             ranks = (ranked-so, six-ranks);
+            retirements = (retired-so, six);
             starred-short = starred-short;
             chains = (long-chain, short-chain);
             shorts = (short-so, five);

@@ -8,11 +8,12 @@ use Rattle.clock.specs.Vector.{Vector}
 use Rattle.layout.specs.State.{table, stateOf, the-widths, the-offsets}
 use Rattle.layout.specs.Theorems.{BytesBack, StateBack, StateFits, BytesLong}
 use Rattle.rules.specs.Engine.{short, ours}
-use Rattle.rules.specs.Calls.{Open, Put, Get, Deliver, Drain, Touch, Look, Adopt, Served, Listed, serve}
+use Rattle.rules.specs.Calls.{Open, Put, Get, Deliver, Drain, Touch, Look, Adopt, Retire, Served, Listed, serve}
 use Rattle.rules.specs.Cases.{Case, cases, Computed}
 use Rattle.rules.specs.TouchCases.{parts, forms, kinds, touches, listed-so, words-first}
 use Rattle.rules.specs.LookCases.{looks}
 use Rattle.rules.specs.RankCases.{ranks}
+use Rattle.rules.specs.RetireCases.{retirements}
 use Rattle.rules.specs.ShortCases.{long-chain, short-chain, shorts}
 use Rattle.rules.specs.Bounds.{bounds}
 use Rattle.rules.specs.SoundCases.{Fact, tables, answered, expected}
@@ -20,6 +21,7 @@ use Rattle.laws.specs.Theorems.{SoundTested, AcceptedSound, KeepsSound, Refused
 use Rattle.laws.specs.Touches.{TouchBack, FormedExactly, AgeAdds, AgedExactly, KindExactly, KindsListed, ListFilled, ColdAnswers, TouchedSays, TouchIsBoth, ScanKeepsColdness}
 use Rattle.laws.specs.Looks.{LookKeeps, GetIsBoth, AdoptIsGet, AdoptAnswers, AdoptNever, ColdKeeps}
 use Rattle.laws.specs.Agreement.{EngineFree}
+use Rattle.laws.specs.Retirement.{RetireRetires, RetireBytes, RetiredKept, NothingLost}
 use Rattle.causal.specs.World.{Set, Tops, World, Run}
 use Rattle.causal.specs.History.{History, AppliedExactly, CausalRun}
 use Rattle.causal.specs.Anomalies.{looked-at, one-winner, Anomalies}
@@ -27,17 +29,17 @@ use Rattle.causal.specs.Refines.{SameAnswers, PutsCounted, Causal}
 use Rattle.demands.specs.Demands.{Demand1, Demand2, Demand3, NothingDelivered, play}
 use Rattle.demands.specs.Stores.{OneWinner, DrainedEqual}
 use Rattle.demands.specs.Agreement.{Agreement}
-use Rattle.demands.specs.Schedule.{schedule, by-hand, looking, adopting, adopted, winning}
-use Rattle.table.specs.declared.Engine.{Engine}
-use Rattle.table.specs.NoSecond as table
+use Rattle.demands.specs.Schedule.{schedule, by-hand, looking, adopting, adopted, winning, closing, closed}
+use Rattle.answers.specs.declared.Engine.{Engine}
+use Rattle.answers.specs.NoSecond as table
 use Rattle.table.specs.Worked as worked
-use Rattle.forkcanyon.specs.Host.{mostTries}
+use Rattle.host.specs.Host.{mostTries}
 use Rattle.forkcanyon.specs.NoSecond as host
 use Rattle.forkcanyon.specs.ShortNoSecond as short-host
-use Rattle.forkcanyon.specs.ColdHost as fc-cold
-use Rattle.forkcanyon.specs.ColdHost.{Hosted}
+use Rattle.both.specs.ColdHost as fc-cold
+use Rattle.both.specs.ColdHost.{Hosted}
 use Rattle.cold.specs.Listing as cold
-use Rattle.forkcanyon.specs.Worked as replies
+use Rattle.reply.specs.Worked as replies
 use Rattle.forkcanyon.specs.Theorems.{WrongReply, WrongTable, SizeExactly, ColdHosts, ListWritten}
 use Rattle.schedule.specs.declared.Step.{Step}
 use Rattle.schedule.specs.Step.{Promise}
@@ -57,7 +59,7 @@ pub record Demands : Type 1 where
 
 -- "Two sites, two winners", and now one
 pub record OfStores : Type 0 where
-  -- where every site has applied every put all stores are equal, and a drain of each site gets there
+  -- where every live site has applied every put their stores are equal, and a drain of each gets there
   pub one-winner : OneWinner
   pub drained : DrainedEqual
 
@@ -67,8 +69,17 @@ pub record OfEngines : Type 0 where
   pub agreement : Agreement
   -- demand 1 for short lists
   pub one-short : Demand1 short
-  -- open, look and the cold list do not depend on the engine
+  -- open, look, retire and the cold list do not depend on the engine
   pub engine-free : EngineFree
+
+-- "Retire a site"
+pub record OfRetirement : Type 0 where
+  -- a retirement retires its site and changes nothing else; no other call but open changes who is retired
+  pub retires : RetireRetires
+  pub in-bytes : RetireBytes
+  pub kept : RetiredKept
+  -- what some live site lacks stays, whatever the call, until it has it
+  pub nothing-lost : NothingLost
 
 -- what demand 3 rests on and shuts out
 pub record OfHistories : Type 1 where
@@ -87,6 +98,8 @@ pub record OfHistories : Type 1 where
   -- so for a put after a look, which is handed on at once, and a put after an adopt, which is not
   pub looking : (t : List ℕ) → length t ≡ table .width → play ours (serve ours t (Open 3 4) .bytes) [] looking .1 ≡ looked-at
   pub adopting : (t : List ℕ) → length t ≡ table .width → play ours (serve ours t (Open 3 4) .bytes) [] adopting .1 ≡ adopted
+  -- and for a site that puts and is retired
+  pub closing : (t : List ℕ) → length t ≡ table .width → play ours (serve ours t (Open 3 4) .bytes) [] closing .1 ≡ closed
   -- and for case 13, where both sites get the one winner
   pub winning : (t : List ℕ) → length t ≡ table .width → play ours (serve ours t (Open 3 4) .bytes) [] winning .1 ≡ one-winner
 
@@ -99,6 +112,8 @@ pub record NoSecondOutcome : Type 0 where
   pub adopts : (e : Engine) (s x o c : ℕ) → table.NoSecondBy e (Adopt s x o c) × table.OneBy e (Adopt s x o c)
   pub delivers : (e : Engine) (s o : ℕ) → table.NoSecondBy e (Deliver s o) × table.OneBy e (Deliver s o)
   pub drains : (e : Engine) (s b : ℕ) → table.NoSecondBy e (Drain s b) × table.OneBy e (Drain s b)
+  pub retires : (s : ℕ) → table.NoSecond (Retire s) × table.One (Retire s)
+  pub fc-retire : (s : ℕ) → host.NoSecond (Retire s) × host.One (Retire s)
   pub fc-open : (n k : ℕ) → host.NoSecond (Open n k) × host.One (Open n k)
   pub fc-put : (s x v : ℕ) → host.NoSecond (Put s x v) × host.One (Put s x v)
   pub fc-get : (s x : ℕ) → host.NoSecond (Get s x) × host.One (Get s x)
@@ -139,6 +154,8 @@ pub record OfCases : Type 0 where
   pub records : Says parts × Says forms × Says kinds × Says listed-so × Says words-first
   -- look and adopt
   pub looks : Computed ours looks × (length looks ≡ 8)
+  -- retirement: who is refused, who counts no longer, and what stays
+  pub retirements : Computed ours retirements × (length retirements ≡ 6)
   -- ranks: what a put learns, and which deliveries replace
   pub ranks : Computed ours ranks × (length ranks ≡ 6)
   -- short lists answer document 01's cases too, and in case 13 two sites disagree for good; a chain of three sites in both, and what a short put leaves and a short get adds
@@ -251,6 +268,7 @@ pub record Claims : Type 1 where
   pub demands : Demands
   pub stores : OfStores
   pub engines : OfEngines
+  pub retirement : OfRetirement
   pub histories : OfHistories
   pub outcomes : NoSecondOutcome
   pub cases : OfCases

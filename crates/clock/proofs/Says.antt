@@ -68,6 +68,19 @@ denies-or {a = false} p q = ((λ e. (p .0 refl, q .0 e)), λ r. q .1 (r .1))
 pub denies-not : {t : Bool} {P : Type 0} → Says t P → Denies (not t) P
 denies-not {t} p = ((λ e. p .0 (not-false t e)), λ r. rw (p .1 r))
 
+pub says-not : {t : Bool} {P : Type 0} → Denies t P → Says (not t) P
+says-not {t = true} p = ((λ e. both e refl), λ r. sym (p .1 r))
+says-not {t = false} p = ((λ e. p .0 refl), λ r. refl)
+
+-- the second is asked where the first fails
+pub says-unless : {a b : Bool} {P Q : Type 0} → Denies a P → Says b Q → Says (a || b) (P → Q)
+says-unless {a = true} p q = ((λ e r. both refl (p .1 r)), λ f. refl)
+says-unless {a = false} p q = ((λ e r. q .0 e), λ f. q .1 (f (p .0 refl)))
+
+pub denies-unless : {a b : Bool} {P Q : Type 0} → Denies a P → Denies b Q → Denies (not a && b) (P → Q)
+denies-unless {a = true} p q = ((λ e r. both refl (p .1 r)), λ f. refl)
+denies-unless {a = false} p q = ((λ e r. q .0 e), λ f. q .1 (f (p .0 refl)))
+
 -- ## A test of each number below a bound
 
 -- what holds below m and at m is what holds below suc m
@@ -86,3 +99,12 @@ pub denies-any : (p : ℕ → Bool) (P : ℕ → Type 0) (m : ℕ) → ((i : ℕ
 unfolding any
 denies-any p P zero f = ((λ e i h. absurd (omega arith)), λ g. refl)
 denies-any p P (suc m) f = Iff·trans (denies-or (denies-any p P m f) (f m)) (below-suc P m)
+
+pub says-any : (p : ℕ → Bool) (P : ℕ → Type 0) (m : ℕ) → ((i : ℕ) → Says (p i) (P i)) → Says (any m p) ((i : ℕ) × (i < m) × P i)
+unfolding any
+says-any p P zero f = ((λ e. both e refl), λ r. absurd (omega (arith, r .1)))
+says-any p P (suc m) f =
+    Iff·trans (says-or (says-any p P m f) (f m)) (
+      ⊎-elim (λ r. (r .0, omega (arith, r .1), r .2)) (λ r. (m, omega arith, r)),
+      λ r. ⊎-elim (λ (e : r .0 ≡ m). inr (subst (λ (z : ℕ). P z) e (r .2))) (λ (e : r .0 ≢ m). inl (r .0, omega (arith, r .1), r .2)) (eq? (r .0) m),
+    )

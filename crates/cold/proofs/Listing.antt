@@ -13,10 +13,10 @@ use Rattle.rules.specs.Refusals.{first}
 use Rattle.rules.specs.Calls.{Cold, step, asks, Served, serve, serve-list}
 use Rattle.laws.proofs.Ready.{ColdReady, cold-ready}
 use Rattle.laws.proofs.Serving.{asks-clear}
-use Rattle.table.specs.declared.Refusal.{Refusal}
-use Rattle.table.specs.declared.Answer.the-variants.{Refused}
-use Rattle.table.specs.Answers.{codeOf}
-use Rattle.table.proofs.Serves.{serves-refused, serves-step}
+use Rattle.answers.specs.declared.Refusal.{Refusal}
+use Rattle.answers.specs.declared.Answer.the-variants.{Refused}
+use Rattle.answers.specs.Answers.{codeOf}
+use Rattle.answers.proofs.Serves.{serves-refused, serves-step}
 use Rattle.cold.specs.Listing.{listed, Lists, Stepped}
 
 module _ (t l : List ℕ) (s hour T : ℕ) where

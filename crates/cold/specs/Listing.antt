@@ -8,8 +8,8 @@ use Rattle.rules.specs.Sound.{Sound}
 use Rattle.rules.specs.Touch.{coldList}
 use Rattle.rules.specs.Steps.{cold}
 use Rattle.rules.specs.Calls.{Listed, serve-list}
-use Rattle.table.specs.declared.Answer.{Answer}
-use Rattle.table.specs.Answers.{numbersOf}
+use Rattle.answers.specs.declared.Answer.{Answer}
+use Rattle.answers.specs.Answers.{numbersOf}
 
 -- what a call that answered r has left in the table and in the list
 abbrev pub listed : Answer → (t list : List ℕ) → Listed

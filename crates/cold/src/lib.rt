@@ -9,13 +9,13 @@ ghost use Rattle.rules.specs.Touch as kinds;
 ghost use Rattle.rules.specs.Touch.{age, aged, kindOf, kind, kindsAt, padded};
 ghost use Rattle.rules.specs.Refusals.{first, cold-words};
 ghost use Rattle.rules.specs.Calls.{Cold, asks};
-ghost use Rattle.table.specs.Answers.{codeOf};
+ghost use Rattle.answers.specs.Answers.{codeOf};
 ghost use Rattle.cold.specs.Listing.{listed, Promise, Lists, Stepped};
 ghost use Rattle.cold.specs.Kinds.{meant};
 ghost use Rattle.cold.specs.Tally.{Tally, Small};
+use answers::Answer;
+use answers::Refusal;
 use layout::Record;
-use table::Answer;
-use table::Refusal;
 
 // What the cold list makes of a key.
 pub enum Kind {
@@ -166,7 +166,7 @@ fn cold_refusal(t: &[u8], s: usize, hour: usize, threshold: usize, room: usize) 
 {
     let why = words_refusal(hour, threshold, room);
     match why {
-        Refusal::Nothing => table::site_refusal(t, s),
+        Refusal::Nothing => refusals::site_refusal(t, s),
         _ => why,
     }
 }

@@ -11,7 +11,7 @@ use Rattle.layout.specs.Ranges.{Fits}
 use Rattle.layout.proofs.TableTrips.{state-back}
 use Rattle.rules.specs.Engine.{Engine, long, short}
 use Rattle.rules.specs.Steps.{Numbers, opened}
-use Rattle.rules.specs.Calls.{Call, Open, Put, Get, Deliver, Drain, Cold, Touch, Look, Adopt, run, serve}
+use Rattle.rules.specs.Calls.{Call, Open, Put, Get, Deliver, Drain, Cold, Touch, Look, Adopt, Retire, run, serve}
 use Rattle.laws.specs.Agreement.{SameTable, SameAnswer}
 use Rattle.laws.proofs.Agreed.{Agree, run-agree, same-table, same-made, opened-agree}
 use Rattle.laws.proofs.Ready.{OpenReady}
@@ -37,6 +37,7 @@ ten-quiet E S (Cold s now T m) a h z = rw z
 ten-quiet E S (Touch s x now u r) a h z = rw z
 ten-quiet E S (Look s x) a h z = rw z
 ten-quiet E S (Adopt s x o c) a h z = rw z
+ten-quiet E S (Retire s) a h z = rw z
 
 module _ {S T : State} (G : Agree S T) where
   same-found : (s x : ℕ) → found T s x ≡ found S s x
@@ -58,6 +59,7 @@ module _ {S T : State} (G : Agree S T) where
   same-events (Touch s x now u r) a h = rw (same-found s x)
   same-events (Look s x) a h = refl
   same-events (Adopt s x o c) a h = refl
+  same-events (Retire s) a h = refl
 
   same-history : (c : Call) (a b : Numbers) (h : History) → SameAnswer a b → after-call short T c b h ≡ after-call long S c a h
   same-history c a b h A =

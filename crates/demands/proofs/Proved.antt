@@ -11,7 +11,7 @@ use Rattle.layout.proofs.TableTrips.{state-back}
 use Rattle.rules.specs.Engine.{Engine, ours}
 use Rattle.rules.specs.Steps.{Numbers, Outcome, opened}
 use Rattle.rules.specs.Refusals.{first}
-use Rattle.rules.specs.Calls.{Call, Open, Put, Get, Look, Adopt, Deliver, Drain, refusals, beside, step, run, asks, Served, serve}
+use Rattle.rules.specs.Calls.{Call, Open, Put, Get, Look, Adopt, Retire, Deliver, Drain, refusals, beside, step, run, asks, Served, serve}
 use Rattle.laws.specs.Theorems.{Clear}
 use Rattle.laws.proofs.Ready.{OpenReady, open-ready}
 use Rattle.laws.proofs.Given.{first-given, first-avoids, first-clear, asks-proper, beside-code}
@@ -24,7 +24,7 @@ use Rattle.causal.proofs.Following.{follows}
 use Rattle.causal.proofs.Tracing.{played, played-causal}
 use Rattle.demands.specs.Demands.{Delivered, none, Answered, Demand1, Demand2, Demand3}
 use Rattle.layout.proofs.Whole.{state-bytes}
-use Rattle.laws.proofs.Fitting.{FitsEngine, ours-fits, Sized, put-sized, get-sized, look-sized, adopt-sized, deliver-sized, open-fits}
+use Rattle.laws.proofs.Fitting.{FitsEngine, ours-fits, Sized, put-sized, get-sized, look-sized, adopt-sized, retire-sized, deliver-sized, open-fits}
 use Rattle.laws.proofs.Serving.{served, asks-clear, serve-step, serve-refused, serve-accepted}
 use Rattle.laws.proofs.Outcomes.{outcome, outcome-is}
 use Rattle.demands.proofs.Serving.{serve-state, play-is}
@@ -97,6 +97,7 @@ demand2 t b h D = ((meaning S, meaning-abstracts S), on-bytes)
           looks = λ s x. at (Look s x) (look-sized s x) (f .looks s x);
           adopts = λ s x o c. at (Adopt s x o c) (adopt-sized s x o c) (f .adopts s x o c);
           delivers = λ s o. at (Deliver s o) (deliver-sized s o) (f .delivers s o);
+          retires = λ s. at (Retire s) (retire-sized s) (f .retires s);
           tells = λ s o. subst (λ (r : Outcome). Tells S W s o (r .answer)) (same (Deliver s o) (deliver-sized s o)) (f .tells s o);
         }
       where

@@ -17,8 +17,8 @@ use Rattle.causal.specs.Anomalies.{looked-at, one-winner}
 use Rattle.causal.specs.Refines.{Causal}
 use Rattle.causal.proofs.Tracing.{played}
 use Rattle.demands.specs.Demands.{play, FourBytes}
-use Rattle.demands.specs.Schedule.{schedule, by-hand, looking, adopting, adopted, winning}
-use Rattle.laws.proofs.Fitting.{ours-fits, Sized, put-sized, get-sized, look-sized, adopt-sized, deliver-sized, open-fits}
+use Rattle.demands.specs.Schedule.{schedule, by-hand, looking, adopting, adopted, winning, closing, closed}
+use Rattle.laws.proofs.Fitting.{ours-fits, Sized, put-sized, get-sized, look-sized, adopt-sized, retire-sized, deliver-sized, open-fits}
 use Rattle.laws.proofs.Serving.{asks-long, serve-step}
 use Rattle.demands.proofs.Serving.{play-is}
 use Rattle.demands.proofs.Proved.{opens, demand3}
@@ -70,6 +70,12 @@ module _ (t : List ℕ) (size : length t ≡ table .width) where
   unfolding rules winning
   history-winning =
       on-bytes winning (put-sized 0 0 5 (omega arith), (put-sized 1 0 6 (omega arith), (deliver-sized 0 1, (deliver-sized 1 0, (get-sized 1 0, (get-sized 0 0, tt))))))
+
+  pub history-closing : play ours (serve ours t (Open 3 4) .bytes) [] closing .1 ≡ closed
+  unfolding rules closing closed
+  history-closing =
+      on-bytes closing
+      (put-sized 0 1 7 (omega arith), (retire-sized 0, (put-sized 0 1 8 (omega arith), (deliver-sized 1 0, ((λ s x v e. clash (cc)), (get-sized 2 1, tt))))))
 
   pub causal : let p = play ours (serve ours t (Open 3 4) .bytes) [] schedule in Causal (stateOf (p .0)) (λ c. serve ours (p .0) c .answer) by-hand
   causal = rw history at (demand3 t 3 4 accepted schedule (each-put schedule sized))

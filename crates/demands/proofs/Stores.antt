@@ -1,16 +1,18 @@
 -- Where every site has applied every put all stores are equal, and draining each site gets there. Assumes nothing.
-use mathlib.Core.Path.{_≡_, refl, sym, subst, _∙_, fun-ext}
+use mathlib.Core.Path.{_≡_, refl, sym, ap, subst, _∙_, fun-ext}
 use mathlib.Core.List.{List, [], _∷_, map}
 use mathlib.Core.Logic.{_⊎_, inl, inr, ⊎-elim, _≢_}
 use Prim.Native.Nat.{ℕ, _≤_, _<_}
 use native.Mathlib.Omega.{arith}
 use borrow.Author.Tests.{ne-eqb}
+use Rattle.clock.specs.Map.{bit}
 use Rattle.clock.specs.Lists.{_∈_}
 use Rattle.clock.specs.Vector.{Vector}
 use Rattle.clock.proofs.Maps.{eq?, le?}
 use Rattle.layout.specs.State.{State, Entry}
 use Rattle.layout.specs.Ranges.{FitsVector, Fits}
 use Rattle.layout.proofs.TableTrips.{state-back}
+use Rattle.rules.specs.Live.{Live}
 use Rattle.rules.specs.Engine.{ours}
 use Rattle.rules.specs.Sound.{Blank}
 use Rattle.rules.specs.Steps.{opened}
@@ -18,7 +20,7 @@ use Rattle.rules.specs.Calls.{Call, Drain, refusals, step, run}
 use Rattle.laws.proofs.Ready.{drain-ready}
 use Rattle.laws.proofs.Codes.{accepted-first}
 use Rattle.laws.proofs.Tries.{budget-enough}
-use Rattle.laws.proofs.After.{counts-kept}
+use Rattle.laws.proofs.After.{counts-kept, retired-kept}
 use Rattle.laws.proofs.Fitting.{ours-fits, open-fits, entry-fits}
 use Rattle.laws.proofs.Spare.{Spare, open-spare, run-spare}
 use Rattle.laws.proofs.Elsewhere.{drain-elsewhere}
@@ -59,7 +61,7 @@ module _ {S : State} {h : History} (T : Traced S h) where
   abbrev I : Inv (A .ranks) h W
   I = inv (A .ranks) h W (T .leads) (A .right)
 
-  module _ (F : Fits S) (Z : Spare S) (all : AllApplied S) (s t x : ℕ) (p : s < S .n) (q : t < S .n) (y : x < S .k) where
+  module _ (F : Fits S) (Z : Spare S) (all : AllApplied S) (s t x : ℕ) (p : Live S s) (q : Live S t) (y : x < S .k) where
     abbrev e : Entry
     e = S .store s x
 
@@ -69,10 +71,10 @@ module _ {S : State} {h : History} (T : Traced S h) where
     same : (o : ℕ) → o < S .n → W .applied t o ≡ W .applied s o
     same o b =
         let l : o < 8 = omega (arith, T .sound .sites) in
-        T .related .applied t o q l ∙ all t o q b ∙ sym (all s o p b) ∙ sym (T .related .applied s o p l)
+        T .related .applied t o (q .0) l ∙ all t o q b ∙ sym (all s o p b) ∙ sym (T .related .applied s o (p .0) l)
 
     answers : answer (e .value) (e .origin) (e .clock) ≡ answer (f .value) (f .origin) (f .clock)
-    answers = sym (T .related .answers s x p y) ∙ same-answer (A .ranks) h W (T .leads) (A .right) s t same x ∙ T .related .answers t x q y
+    answers = sym (T .related .answers s x (p .0) y) ∙ same-answer (A .ranks) h W (T .leads) (A .right) s t same x ∙ T .related .answers t x (q .0) y
 
     fits : (s : ℕ) → s < S .n → FitsVector (S .store s x .depends)
     fits s p = entry-fits S F s x (omega (arith, T .sound .sites)) (omega (arith, T .sound .keys)) .1 .1 .1 .1
@@ -82,19 +84,19 @@ module _ {S : State} {h : History} (T : Traced S h) where
 
     blanks : e .clock ≡ 0 → f .clock ≡ 0 → e ≡ f
     blanks z w =
-        let b = never-written s p z in
-        let c = never-written t q w in
+        let b = never-written s (p .0) z in
+        let c = never-written t (q .0) w in
         same-entry e f (b .value ∙ sym (c .value)) (b .origin ∙ sym (c .origin)) (Z s x ∙ sym (Z t x)) (z ∙ sym w)
-        (same-vector _ _ (fits s p) (fits t q) (λ j l. b .depends j l ∙ sym (c .depends j l)))
+        (same-vector _ _ (fits s (p .0)) (fits t (q .0)) (λ j l. b .depends j l ∙ sym (c .depends j l)))
 
     wrotes : e .clock ≢ 0 → wrote (e .value) (e .origin) (e .clock) ≡ wrote (f .value) (f .origin) (f .clock) → e ≡ f
     wrotes z k =
-        let m : Names (W .store s x .answer) (e .origin) (e .clock) = rw (T .related .answers s x p y, ne-eqb (e .clock) 0 z) (refl, refl) in
+        let m : Names (W .store s x .answer) (e .origin) (e .clock) = rw (T .related .answers s x (p .0) y, ne-eqb (e .clock) 0 z) (refl, refl) in
         let g = same-set (A .ranks) h W (T .leads) (A .right) s t same x (e .origin) (e .clock) m in
-        let a = T .related .store s x p y in
-        let b = T .related .store t x q y in
+        let a = T .related .store s x (p .0) y in
+        let b = T .related .store t x (q .0) y in
         same-entry e f (cc) (cc) (Z s x ∙ sym (Z t x)) (cc)
-        (same-vector _ _ (fits s p) (fits t q)
+        (same-vector _ _ (fits s (p .0)) (fits t (q .0))
         (λ j l. omega (arith, tops-le _ _ _ _ a b (λ o c. g o c .0) j l, tops-le _ _ _ _ b a (λ o c. g o c .1) j l)))
 
     entries-equal : e ≡ f
@@ -125,11 +127,21 @@ module _ {S : State} {h : History} (T : Traced S h) (b : ℕ) (much : 903 ≤ b)
   sites : S′ .n ≡ S .n
   sites = counts-kept ours S drain (λ n k e. clash (cc)) .0
 
-  enough : s < S .n → run ours S drain .answer .code ≡ 0
-  unfolding step refusals
-  enough p = accepted-first ours S drain (budget-enough ours S (T .sound) s b p much) .1 (drain-ready S s .1 (record { sound = T .sound; site = p }))
+  retired : S′ .retired ≡ S .retired
+  retired = retired-kept ours S drain (λ n k e. clash (cc)) (λ t e. clash (cc))
 
-  drained-row : s < S .n → Row S′ s
+  -- a drain changes nothing in who is live
+  before : (t : ℕ) → Live S′ t → Live S t
+  before t l = (omega (arith, l .0, sites), ap (λ (r : ℕ). bit r t) (sym retired) ∙ l .1)
+
+  after : (t : ℕ) → Live S t → Live S′ t
+  after t l = (omega (arith, l .0, sites), ap (λ (r : ℕ). bit r t) retired ∙ l .1)
+
+  enough : Live S s → run ours S drain .answer .code ≡ 0
+  unfolding step refusals
+  enough p = accepted-first ours S drain (budget-enough ours S (T .sound) s b p much) .1 (drain-ready S s .1 (record { sound = T .sound; site = p .0; live = p .1 }))
+
+  drained-row : Live S s → Row S′ s
   drained-row p o q =
       ⊎-elim (λ e. e)
       (λ (e : S′ .applied s o ≢ S′ .applied o o).
@@ -146,10 +158,10 @@ module _ {S : State} {h : History} (T : Traced S h) (b : ℕ) (much : 903 ≤ b)
       )))
       (eq? (S′ .applied s o) (S′ .applied o o))
 
-  row-kept : (t : ℕ) → t < S .n → Row S t → Row S′ t
+  row-kept : (t : ℕ) → Live S t → Row S t → Row S′ t
   row-kept t p R o q =
       ⊎-elim
-      (λ (e : t ≡ s). subst (λ (z : ℕ). Row S′ z) (sym e) (drained-row (subst (λ (z : ℕ). z < S .n) e p)) o q)
+      (λ (e : t ≡ s). subst (λ (z : ℕ). Row S′ z) (sym e) (drained-row (subst (Live S) e p)) o q)
       (λ (e : t ≢ s). drain-elsewhere ours S s b t o (λ z. absurd (e z)) ∙ R o (omega (arith, sites)) ∙ sym (drain-elsewhere ours S s b o o (λ z. z)))
       (eq? t s)
 
@@ -157,15 +169,15 @@ abbrev drains : (b : ℕ) → List ℕ → List Call
 drains b = map (λ s. Drain s b)
 
 drained-rows : (b : ℕ) → 903 ≤ b → (l : List ℕ) {S : State} {h : History} → Traced S h → let R = played ours S h (drains b l) .0 in
-    (R .n ≡ S .n) × ((s : ℕ) → s < S .n → (s ∈ l) ⊎ Row S s → Row R s)
-drained-rows b e [] T = (refl, λ s p. ⊎-elim absurd (λ r. r))
+    ((s : ℕ) → Live R s → Live S s) × ((s : ℕ) → Live S s → (s ∈ l) ⊎ Row S s → Row R s)
+drained-rows b e [] T = ((λ s p. p), λ s p. ⊎-elim absurd (λ r. r))
 drained-rows b e (t ∷ l) {S = S} T =
     let d = drained-rows b e l (T′ T b e t) in (
-      d .0 ∙ sites T b e t,
+      (λ s p. before T b e t s (d .0 s p)),
       λ s p k.
-          d .1 s (omega (arith, sites T b e t))
+          d .1 s (after T b e t s p)
           (⊎-elim
-          (⊎-elim (λ (q : s ≡ t). inr (subst (λ (z : ℕ). Row (S′ T b e t) z) (sym q) (drained-row T b e t (subst (λ (z : ℕ). z < S .n) q p)))) inl)
+          (⊎-elim (λ (q : s ≡ t). inr (subst (λ (z : ℕ). Row (S′ T b e t) z) (sym q) (drained-row T b e t (subst (Live S) q p)))) inl)
           (λ r. inr (row-kept T b e t s p r))
           k),
     )
@@ -200,6 +212,6 @@ drained-equal t n k z cs h =
     let d = play-is ours ours-fits (q .0) (p .0) (q .1) (drains b l) (no-puts b l) in
     let R = played ours (q .0) (q .1) (drains b l) .0 in
     let r = drained-rows b e l T in
-    let all : AllApplied R = λ s o i j. r .1 s (omega (arith, r .0)) (inl (covers s (omega (arith, r .0)))) o j in
+    let all : AllApplied R = λ s o i j. r .1 s (r .0 s i) (inl (covers s (r .0 s i))) o j in
     rw (d .1, state-back R (d .0))
     (all, entries-equal (played-traced T (drains b l)) (d .0) (played-spare (drains b l) (q .0) (q .1) (played-spare cs (opened n k) [] (open-spare n k))) all))

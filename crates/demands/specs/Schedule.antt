@@ -1,7 +1,7 @@
--- Document 01's schedule and three more lists of calls, and the histories that a reader would write of them. Assumes nothing.
+-- Document 01's schedule and four more lists of calls, and the histories that a reader would write of them. Assumes nothing.
 use mathlib.Core.List.{List, [], _∷_}
-use Rattle.rules.specs.Calls.{Call, Put, Get, Look, Adopt, Deliver, Drain}
-use Rattle.causal.specs.World.{wrote, put, get, look, adopt, update}
+use Rattle.rules.specs.Calls.{Call, Put, Get, Look, Adopt, Deliver, Drain, Retire}
+use Rattle.causal.specs.World.{wrote, put, get, look, adopt, update, retire}
 use Rattle.causal.specs.History.{History}
 
 unfoldable pub schedule : List Call
@@ -27,3 +27,10 @@ adopted = put 1 2 9 1 ∷ adopt 1 1 (wrote 7 0 1) ∷ look 1 1 (wrote 7 0 1) ∷
 -- case 13 of document 01, and a get at each site: `one-winner` (crates/causal/specs/Anomalies)
 unfoldable pub winning : List Call
 winning = Put 0 0 5 ∷ Put 1 0 6 ∷ Deliver 0 1 ∷ Deliver 1 0 ∷ Get 1 0 ∷ Get 0 0 ∷ []
+
+-- 0 puts and is retired: its next put is refused, and its first reaches the others all the same
+unfoldable pub closing : List Call
+closing = Put 0 1 7 ∷ Retire 0 ∷ Put 0 1 8 ∷ Deliver 1 0 ∷ Drain 2 903 ∷ Get 2 1 ∷ []
+
+unfoldable pub closed : History
+closed = get 2 1 (wrote 7 0 1) ∷ update 2 0 1 1 7 ∷ update 1 0 1 1 7 ∷ retire 0 ∷ put 0 1 7 1 ∷ []

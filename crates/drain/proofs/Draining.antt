@@ -7,6 +7,7 @@ use Prim.Native.Nat.{ℕ, suc, _+_, _-_, _≤_, _<_}
 use native.Mathlib.Omega.{arith}
 use lib.Dec.{eqb}
 use lib.ListN.{length}
+use Rattle.clock.specs.Map.{bit}
 use Rattle.clock.proofs.Maps.{choice}
 use Rattle.layout.specs.State.{State, stateOf}
 use Rattle.rules.specs.Engine.{Engine}
@@ -14,13 +15,13 @@ use Rattle.rules.specs.Sound.{Sound}
 use Rattle.rules.specs.Steps.{Numbers, Outcome, deliver}
 use Rattle.rules.specs.Refusals.{first, deliver-refusals}
 use Rattle.rules.specs.Drain.{try, turn, passes, drained}
-use Rattle.rules.specs.Calls.{Deliver, Drain, refusals, run, asks}
+use Rattle.rules.specs.Calls.{Open, Deliver, Drain, refusals, run, asks}
 use Rattle.laws.proofs.Ready.{drain-ready}
 use Rattle.laws.proofs.Serving.{asks-clear}
 use Rattle.laws.proofs.Draining.{try-runs, ended, stopped, passes-end, passes-stop, passes-accepted, passes-refused}
 use Rattle.laws.proofs.Turns.{Fair, turn-fair}
-use Rattle.laws.proofs.After.{keeps-sound, counts-kept}
-use Rattle.table.specs.Asked.{Attempts}
+use Rattle.laws.proofs.After.{keeps-sound, counts-kept, retired-kept}
+use Rattle.refusals.specs.Asked.{Attempts}
 use Rattle.drain.specs.Turns.{turnOf, Drains}
 use Rattle.drain.proofs.Turning.{due-at, at-end}
 
@@ -72,11 +73,14 @@ module _ {E : Engine} {t₀ t : List ℕ} {n s budget o : ℕ} {d : Bool} {deliv
     attempts =
         let r = D .ready in
         let f : (o < n) × (o ≢ s) = subst (Fair n s) (due-at n o d h) (D .fair) in
-        record { size = r .size; sound = r .sound; site = omega (arith, r .site, r .sites); origin = omega (arith, r .sites); others = λ e. f .1 (sym e) }
+        record { size = r .size; sound = r .sound; site = omega (arith, r .site, r .sites); origin = omega (arith, r .sites); others = λ e. f .1 (sym e); live = r .live }
 
     module _ (t′ : List ℕ) (size : length t′ ≡ length t) (after : stateOf t′ ≡ try E S s o .after) (left : tries < budget) where
       one-less : budget - tries ≡ suc (budget - (tries + 1))
       one-less = omega arith
+
+      other : (n k : ℕ) → Deliver s o ≢ Open n k
+      other n k p = let z : _≡_ {A = ℕ} 0 1 = cc in omega arith
 
       next : Drains t′ n s
       next =
@@ -84,8 +88,9 @@ module _ {E : Engine} {t₀ t : List ℕ} {n s budget o : ℕ} {d : Bool} {deliv
           record {
             size = size ∙ D .ready .size;
             sound = subst Sound (sym e) (keeps-sound E S (Deliver s o) (D .ready .sound));
-            sites = D .ready .sites ∙ sym (ap (λ (T : State). T .n) e ∙ counts-kept E S (Deliver s o) (λ n k p. let z : _≡_ {A = ℕ} 0 1 = cc in omega arith) .0);
+            sites = D .ready .sites ∙ sym (ap (λ (T : State). T .n) e ∙ counts-kept E S (Deliver s o) other .0);
             site = D .ready .site;
+            live = ap (λ (b : ℕ). bit b s) (ap (λ (T : State). T .retired) e ∙ retired-kept E S (Deliver s o) other (λ n p. let z : _≡_ {A = ℕ} 0 1 = cc in omega arith)) ∙ D .ready .live;
           }
 
       pub drain-accepted : try E S s o .answer .code ≡ 0 → Draining E t₀ t′ n s budget o true (deliveries + 1) (tries + 1)
@@ -139,4 +144,4 @@ unfolding refusals
 drain-clear t s n e h =
     let r = asks-clear t (Drain s 0) h in
     let d = drain-ready (stateOf t) s .0 (r .1) in
-    record { size = r .0; sound = d .sound; sites = e; site = omega (arith, d .site) }
+    record { size = r .0; sound = d .sound; sites = e; site = omega (arith, d .site); live = d .live }

@@ -4,11 +4,11 @@ ghost use Prim.Native.Nat.{_≤_, _<_, _+_};
 ghost use Rattle.layout.specs.State.{stateOf};
 ghost use Rattle.rules.specs.Drain.{skip, turn, drain};
 ghost use Rattle.rules.specs.Calls.{Drain};
-ghost use Rattle.table.specs.Answers.{engineOf, numbersOf, served, PromiseBy};
+ghost use Rattle.answers.specs.Answers.{engineOf, numbersOf, served, PromiseBy};
 ghost use Rattle.drain.specs.Turns.{turnOf, Drains};
-use table::Answer;
-use table::Engine;
-use table::Refusal;
+use answers::Answer;
+use answers::Engine;
+use answers::Refusal;
 
 // Where a try is due, in a pass that has delivered or not; from n on the drain is at its end.
 pub struct Turn {
@@ -68,9 +68,9 @@ fn passes(t: &mut [u8], n: usize, s: usize, budget: u16, engine: Engine) -> Answ
                 tries: tries,
             };
         }
-        let answer = table::attempt(t, s, o, engine);
+        let answer = deliver::attempt(t, s, o, engine);
         tries += 1;
-        if table::code(answer) == 0 {
+        if answers::code(answer) == 0 {
             deliveries += 1;
             delivered = true;
         } else {
@@ -88,7 +88,7 @@ fn passes(t: &mut [u8], n: usize, s: usize, budget: u16, engine: Engine) -> Answ
 pub fn drain(t: &mut [u8], s: usize, budget: u16, engine: Engine) -> Answer
     ensures { λ r. ⌜ PromiseBy engine (now (t .entry)) (Drain s budget) (served r (now (t .exit))) ⌝ }
 {
-    let why = table::site_refusal(t, s);
+    let why = refusals::site_refusal(t, s);
     match why {
         Refusal::Nothing => {
             let h = layout::read_header(t);

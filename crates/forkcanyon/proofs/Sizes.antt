@@ -11,13 +11,14 @@ use Rattle.clock.proofs.Maps.{eq?}
 use Rattle.layout.specs.State.{table, stateOf}
 use Rattle.rules.specs.Engine.{Engine, ours}
 use Rattle.rules.specs.Refusals.{Refusals, first}
-use Rattle.rules.specs.Calls.{Call, Open, Put, Get, Deliver, Drain, Cold, Touch, Look, Adopt, words, asks, Served, serve, serve-list}
+use Rattle.rules.specs.Calls.{Call, Open, Put, Get, Deliver, Drain, Cold, Touch, Look, Adopt, Retire, words, asks, Served, serve, serve-list}
 use Rattle.laws.proofs.Given.{Avoids, words-proper, no-one, beside-code}
 use Rattle.laws.proofs.Codes.{step-code}
 use Rattle.laws.proofs.Serving.{asks-long, serve-step, serve-refused, serve-short}
-use Rattle.forkcanyon.specs.Host.{replyBytes, Hosted, left, replyOf, unsized, host}
+use Rattle.reply.specs.Reply.{replyBytes, replyOf}
+use Rattle.host.specs.Host.{Hosted, left, unsized, host}
 use Rattle.forkcanyon.specs.Theorems.{WrongReply, WrongTable, SizeExactly, ColdHosts, ListWritten}
-use Rattle.forkcanyon.specs.ColdHost as cold
+use Rattle.both.specs.ColdHost as cold
 
 pub wrong-reply : WrongReply
 unfolding host
@@ -50,6 +51,7 @@ words-one c = unsized-one (words c) (words-proper c .0) (avoids c)
     avoids (Touch s x now u w) = omega arith
     avoids (Look s x) = tt
     avoids (Adopt s x o c) = tt
+    avoids (Retire s) = tt
 
 -- a call on a buffer of the right size never answers 1
 never : (E : Engine) (t : List ℕ) (c : Call) → length t ≡ table .width → serve E t c .answer .code ≢ 1

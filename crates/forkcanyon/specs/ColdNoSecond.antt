@@ -2,7 +2,7 @@
 use mathlib.Core.Path.{_≡_, refl, sym, _∙_}
 use mathlib.Core.List.{List}
 use Prim.Native.Nat.{ℕ}
-use Rattle.forkcanyon.specs.ColdHost.{Hosted, host, Promise}
+use Rattle.both.specs.ColdHost.{Hosted, host, Promise}
 
 pub fc-cold-no-second : (t l r : List ℕ) (site hour threshold : ℕ)
     → ((o o′ : Hosted) → Promise t l r site hour threshold o → Promise t l r site hour threshold o′ → o ≡ o′) × ((o : Hosted) × Promise t l r site hour threshold o)

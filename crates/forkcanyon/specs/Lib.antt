@@ -1,9 +1,5 @@
-pub mod Host
-pub mod Told
-pub mod ColdHost
 pub mod ShortHost
 pub mod NoSecond
 pub mod ColdNoSecond
 pub mod ShortNoSecond
-pub mod Worked
 pub mod Theorems

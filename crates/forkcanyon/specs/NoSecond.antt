@@ -3,8 +3,8 @@ use mathlib.Core.Path.{_≡_, refl, sym, _∙_}
 use mathlib.Core.List.{List}
 use Prim.Native.Nat.{ℕ, min}
 use Rattle.rules.specs.Engine.{ours}
-use Rattle.rules.specs.Calls.{Call, Open, Put, Get, Deliver, Drain, Touch, Look, Adopt}
-use Rattle.forkcanyon.specs.Host.{Hosted, host, Promise, mostTries}
+use Rattle.rules.specs.Calls.{Call, Open, Put, Get, Deliver, Drain, Touch, Look, Adopt, Retire}
+use Rattle.host.specs.Host.{Hosted, host, Promise, mostTries}
 
 abbrev pub NoSecond : Call → Type 0
 NoSecond c = (t r : List ℕ) (o o′ : Hosted) → Promise t r c o → Promise t r c o′ → o ≡ o′
@@ -38,3 +38,6 @@ fc-look-no-second s x = no-second (Look s x)
 
 pub fc-adopt-no-second : (site key origin clock : ℕ) → NoSecond (Adopt site key origin clock) × One (Adopt site key origin clock)
 fc-adopt-no-second s x o c = no-second (Adopt s x o c)
+
+pub fc-retire-no-second : (site : ℕ) → NoSecond (Retire site) × One (Retire site)
+fc-retire-no-second s = no-second (Retire s)

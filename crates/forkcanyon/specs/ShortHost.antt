@@ -4,7 +4,7 @@ use mathlib.Core.List.{List}
 use Prim.Native.Nat.{ℕ}
 use Rattle.rules.specs.Engine.{short}
 use Rattle.rules.specs.Calls.{Call}
-use Rattle.forkcanyon.specs.Host.{Hosted, host}
+use Rattle.host.specs.Host.{Hosted, host}
 
 -- the promise of every call with short lists: what `host` says of the short engine
 abbrev pub Promise : (table reply : List ℕ) → Call → Hosted → Type 0

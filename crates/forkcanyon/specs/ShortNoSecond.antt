@@ -4,7 +4,7 @@ use mathlib.Core.List.{List}
 use Prim.Native.Nat.{ℕ, min}
 use Rattle.rules.specs.Engine.{short}
 use Rattle.rules.specs.Calls.{Call, Put, Get, Deliver, Drain, Touch, Adopt}
-use Rattle.forkcanyon.specs.Host.{Hosted, host, mostTries}
+use Rattle.host.specs.Host.{Hosted, host, mostTries}
 use Rattle.forkcanyon.specs.ShortHost.{Promise}
 
 abbrev pub NoSecond : Call → Type 0

@@ -10,8 +10,9 @@ use Rattle.rules.specs.Steps.{refused}
 use Rattle.rules.specs.Refusals.{first}
 use Rattle.rules.specs.Engine.{Engine, ours}
 use Rattle.rules.specs.Calls.{Call, Cold, words}
-use Rattle.forkcanyon.specs.Host.{replyBytes, replyOf, Hosted, left, unsized, host}
-use Rattle.forkcanyon.specs.ColdHost as cold
+use Rattle.reply.specs.Reply.{replyBytes, replyOf}
+use Rattle.host.specs.Host.{Hosted, left, unsized, host}
+use Rattle.both.specs.ColdHost as cold
 
 -- "If the reply buffer is not 12 bytes, neither buffer is written and 1 comes back", or 14 where it applies
 abbrev pub WrongReply : Type 0

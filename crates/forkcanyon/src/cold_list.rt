@@ -1,6 +1,5 @@
 // The cold list as a C program asks for it: with a lent list of 64 bytes beside the table and the reply.
-ghost use Rattle.forkcanyon.specs.ColdHost.{left, Promise};
-use crate::Reply;
+ghost use Rattle.both.specs.ColdHost.{left, Promise};
 
 #[no_mangle]
 pub extern "C" fn fc_cold(
@@ -13,19 +12,5 @@ pub extern "C" fn fc_cold(
 ) -> u32
     ensures { λ r. ⌜ Promise (now (table .entry)) (now (list .entry)) (now (reply .entry)) site hour threshold (left r (now (table .exit)) (now (list .exit)) (now (reply .exit))) ⌝ }
 {
-    if reply.len() != Reply::BYTES {
-        return crate::wrong_size(cold::words_refusal(
-            hour as usize,
-            threshold as usize,
-            list.len(),
-        ));
-    }
-    let a = cold::cold(
-        table,
-        list,
-        site as usize,
-        hour as usize,
-        threshold as usize,
-    );
-    crate::answer(reply, numbers::numbers_of(a))
+    both::cold_list::cold(site, hour, threshold, table, list, reply)
 }

@@ -2,9 +2,9 @@
 // with fc_open, and its other calls but looks and cold lists are all short, or none is.
 ghost use Prim.Native.Nat.{min};
 ghost use Rattle.rules.specs.Calls.{Put, Get, Deliver, Drain, Touch, Adopt};
-ghost use Rattle.forkcanyon.specs.Host.{left, mostTries};
+ghost use Rattle.host.specs.Host.{left, mostTries};
 ghost use Rattle.forkcanyon.specs.ShortHost.{Promise};
-use table::Engine;
+use answers::Engine;
 
 #[no_mangle]
 pub extern "C" fn fc_short_put(
@@ -16,14 +16,14 @@ pub extern "C" fn fc_short_put(
 ) -> u32
     ensures { λ r. ⌜ Promise (now (table .entry)) (now (reply .entry)) (Put site key value) (left r (now (table .exit)) (now (reply .exit))) ⌝ }
 {
-    crate::put(site, key, value, table, reply, Engine::Short)
+    host::put(site, key, value, table, reply, Engine::Short)
 }
 
 #[no_mangle]
 pub extern "C" fn fc_short_get(site: u64, key: u64, table: &mut [u8], reply: &mut [u8]) -> u32
     ensures { λ r. ⌜ Promise (now (table .entry)) (now (reply .entry)) (Get site key) (left r (now (table .exit)) (now (reply .exit))) ⌝ }
 {
-    crate::get(site, key, table, reply, Engine::Short)
+    host::get(site, key, table, reply, Engine::Short)
 }
 
 #[no_mangle]
@@ -37,7 +37,7 @@ pub extern "C" fn fc_short_adopt(
 ) -> u32
     ensures { λ r. ⌜ Promise (now (table .entry)) (now (reply .entry)) (Adopt site key origin clock) (left r (now (table .exit)) (now (reply .exit))) ⌝ }
 {
-    crate::adopt(site, key, origin, clock, table, reply, Engine::Short)
+    host::adopt(site, key, origin, clock, table, reply, Engine::Short)
 }
 
 #[no_mangle]
@@ -52,7 +52,7 @@ pub extern "C" fn fc_short_touch(
 ) -> u32
     ensures { λ r. ⌜ Promise (now (table .entry)) (now (reply .entry)) (Touch site key hour toucher tier) (left r (now (table .exit)) (now (reply .exit))) ⌝ }
 {
-    crate::touch(site, key, hour, toucher, tier, table, reply, Engine::Short)
+    host::touch(site, key, hour, toucher, tier, table, reply, Engine::Short)
 }
 
 #[no_mangle]
@@ -64,12 +64,12 @@ pub extern "C" fn fc_short_deliver(
 ) -> u32
     ensures { λ r. ⌜ Promise (now (table .entry)) (now (reply .entry)) (Deliver site origin) (left r (now (table .exit)) (now (reply .exit))) ⌝ }
 {
-    crate::deliver(site, origin, table, reply, Engine::Short)
+    host::deliver(site, origin, table, reply, Engine::Short)
 }
 
 #[no_mangle]
 pub extern "C" fn fc_short_drain(site: u64, budget: u64, table: &mut [u8], reply: &mut [u8]) -> u32
     ensures { λ r. ⌜ Promise (now (table .entry)) (now (reply .entry)) (Drain site (min budget mostTries)) (left r (now (table .exit)) (now (reply .exit))) ⌝ }
 {
-    crate::drain(site, budget, table, reply, Engine::Short)
+    host::drain(site, budget, table, reply, Engine::Short)
 }

@@ -14,21 +14,22 @@ use Rattle.clock.proofs.Maps.{both, choice, eq?}
 use Rattle.clock.proofs.Says.{Denies, denies-le, denies-lt, denies-or, denies-any}
 use Rattle.layout.specs.State.{State, Entry, Update}
 use Rattle.rules.specs.Engine.{Engine, long, short}
+use Rattle.rules.specs.Live.{gone, Live}
 use Rattle.rules.specs.Sound.{sound}
 use Rattle.rules.specs.Steps as r
 use Rattle.rules.specs.Touch.{Kind, cold, ahead, malformed, is, kind, chosen}
 use Rattle.rules.specs.Steps.{Numbers, Outcome, done, opened, learn, waiting}
-use Rattle.rules.specs.Refusals.{first, full, missing, open-refusals, put-refusals, get-refusals, adopt-refusals, deliver-refusals, site-refusals, touch-refusals}
+use Rattle.rules.specs.Refusals.{first, full, missing, open-refusals, put-refusals, get-refusals, adopt-refusals, deliver-refusals, site-refusals, touch-refusals, last, retire-refusals}
 use Rattle.rules.specs.Drain.{try, Turn, turn, Drained, passes, drained, drain}
-use Rattle.rules.specs.Calls.{Call, Open, Put, Get, Deliver, Drain, Cold, Touch, Look, Adopt, refusals, beside, step, run}
+use Rattle.rules.specs.Calls.{Call, Open, Put, Get, Deliver, Drain, Cold, Touch, Look, Adopt, Retire, refusals, beside, step, run}
 use Rattle.laws.specs.Agreement.{SameEntry, SameTable, SameAnswer}
 use Rattle.laws.proofs.Tested.{sound-tested}
-use Rattle.laws.proofs.Ready.{OpenReady, PutReady, GetReady, open-ready, put-ready, get-ready, adopt-ready, deliver-ready, touch-ready}
+use Rattle.laws.proofs.Ready.{gets-too, retire-ready, OpenReady, PutReady, GetReady, open-ready, put-ready, get-ready, adopt-ready, deliver-ready, touch-ready}
 use Rattle.laws.proofs.Given.{beside-code, run-cases}
 use Rattle.laws.proofs.Codes.{beside-zeros}
 use Rattle.laws.proofs.Touching.{learn-apart, apart-ready}
 use Rattle.laws.proofs.Draining.{try-runs, passes-end, passes-stop, passes-accepted, passes-refused, by-tries}
-use Rattle.laws.proofs.Agreeing.{Within, other, Agrees, open-agrees, put-agrees, same-check, deliver-agrees, deliver-same, get-agrees}
+use Rattle.laws.proofs.Agreeing.{Within, other, Agrees, open-agrees, put-agrees, same-check, deliver-agrees, deliver-same, get-agrees, retire-agrees}
 
 -- ## Calls
 
@@ -69,6 +70,7 @@ beside-key S (Cold s now T m) e = refl
 beside-key S (Touch s x now u w) e = refl
 beside-key S (Look s x) e = refl
 beside-key S (Adopt s x o c) e = refl
+beside-key S (Retire s) e = refl
 
 same-beside : (S T : State) (c : Call) (e : ℕ) → SameAnswer (beside S c e) (beside T c e)
 same-beside S T c e =
@@ -111,34 +113,36 @@ module _ (S : State) (d : ℕ → Vector) (m : ℕ → ℕ → Entry) (u : ℕ �
       k = A .entries s x
 
   -- the conditions that hold
-  guarded : (b c e p q : Bool) → (b ≡ false → c ≡ false → e ≡ false → p ≡ q)
-      → first ((4, b) ∷ (5, c) ∷ (9, e) ∷ (10, p) ∷ []) ≡ first ((4, b) ∷ (5, c) ∷ (9, e) ∷ (10, q) ∷ [])
-  guarded true c e p q f = refl
-  guarded false true e p q f = refl
-  guarded false false true p q f = refl
-  guarded false false false p q f = rw (f refl refl refl)
+  guarded : (b c g e p q : Bool) → (b ≡ false → g ≡ false → e ≡ false → p ≡ q)
+      → first ((4, b) ∷ (5, c) ∷ (16, g) ∷ (9, e) ∷ (10, p) ∷ []) ≡ first ((4, b) ∷ (5, c) ∷ (16, g) ∷ (9, e) ∷ (10, q) ∷ [])
+  guarded true c g e p q f = refl
+  guarded false true g e p q f = refl
+  guarded false false true e p q f = refl
+  guarded false false false true p q f = refl
+  guarded false false false false p q f = rw (f refl refl refl)
 
-  same-missing : (s o : ℕ) → s < S .n → o < S .n → S .applied s o ≢ S .applied o o → any 8 (missing T′ s o) ≡ any 8 (missing S s o)
+  same-missing : (s o : ℕ) → Live S s → o < S .n → S .applied s o ≢ S .applied o o → any 8 (missing T′ s o) ≡ any 8 (missing S s o)
   same-missing s o p q h =
-      same-denied _ _ (causes T′) (causes S) (same-check S d m u A s o p q (omega (arith, A .sound .most s o p q)))
+      same-denied _ _ (causes T′) (causes S) (same-check S d m u A s o p q (omega (arith, A .sound .most s o (p .0) q)))
     where
       causes : (S : State) → Denies (any 8 (missing S s o)) (Within (waiting S s o .depends) (S .applied s))
       causes S = denies-any (missing S s o) (λ j. waiting S s o .depends j ≤ S .applied s j) 8 (λ j. denies-lt _ _)
 
   same-first : (c : Call) → first (refusals T′ c) ≡ first (refusals S c)
-  unfolding refusals open-refusals put-refusals get-refusals adopt-refusals deliver-refusals site-refusals touch-refusals full
+  unfolding refusals open-refusals put-refusals get-refusals adopt-refusals deliver-refusals site-refusals touch-refusals retire-refusals full last
   same-first (Open n k) = refl
   same-first (Put s x v) = rw (both-sound .0, both-sound .1)
   same-first (Get s x) = rw (both-sound .0, both-sound .1)
   same-first (Deliver s o) =
       rw (both-sound .0, both-sound .1)
-      (guarded (leb (S .n) s || leb (S .n) o) (eqb s o) (eqb (S .applied s o) (S .applied o o)) _ _
-      (λ b c e. let k = denies-or (denies-le (S .n) s) (denies-le (S .n) o) .0 b in same-missing s o (k .0) (k .1) (eqb-false _ _ e)))
+      (guarded (leb (S .n) s || leb (S .n) o) (eqb s o) (gone S s) (eqb (S .applied s o) (S .applied o o)) _ _
+      (λ b g e. let k = denies-or (denies-le (S .n) s) (denies-le (S .n) o) .0 b in same-missing s o (k .0, g) (k .1) (eqb-false _ _ e)))
   same-first (Drain s b) = rw (both-sound .0, both-sound .1)
   same-first (Cold s now U j) = rw (both-sound .0, both-sound .1)
   same-first (Touch s x now w y) = let k = A .entries s x in rw (both-sound .0, both-sound .1, k .0, k .2)
   same-first (Look s x) = rw (both-sound .0, both-sound .1)
   same-first (Adopt s x o c) = let k = A .entries s x in rw (both-sound .0, both-sound .1, k .1, k .2)
+  same-first (Retire s) = rw (both-sound .0, both-sound .1)
 
   -- a call whose steps agree
   run-agreed : (c : Call) → (first (refusals S c) ≡ 0 → first (refusals T′ c) ≡ 0 → Agreed (step long S c) (step short T′ c)) → Agreed (run long S c) (run short T′ c)
@@ -201,17 +205,18 @@ passes-agree s =
 
 step-agreed : (S : State) (d : ℕ → Vector) (m : ℕ → ℕ → Entry) (u : ℕ → ℕ → Update) → Agrees S d m u → (c : Call)
     → first (refusals S c) ≡ 0 → first (refusals (other S d m u) c) ≡ 0 → Agreed (step long S c) (step short (other S d m u) c)
-unfolding refusals step r.put r.get r.look r.cold r.touch r.deliver drained drain opened
+unfolding refusals step r.put r.get r.look r.cold r.touch r.deliver r.retire drained drain opened
 step-agreed S d m u A (Open n k) z z′ = (same-answer refl, agree (open-agrees n k (open-ready n k .0 z)))
 step-agreed S d m u A (Put s x v) z z′ = (same-answer refl, agree (put-agrees S d m u A s x v (put-ready S s x .0 z) (put-ready (other S d m u) s x .0 z′)))
 step-agreed S d m u A (Get s x) z z′ = get-agree S d m u A s x (get-ready S s x .0 z)
+step-agreed S d m u A (Retire s) z z′ = (same-answer refl, agree (retire-agrees S d m u A s (retire-ready S s .0 z) (retire-ready (other S d m u) s .0 z′)))
 step-agreed S d m u A (Look s x) z z′ = (same-answer (same-seen S d m u A s x), agree A)
 step-agreed S d m u A (Adopt s x o c) z z′ = get-agree S d m u A s x (adopt-ready S s x o c .0 z .get)
 step-agreed S d m u A (Cold s now U j) z z′ = (same-answer (same-counts S d m u A s now U), agree A)
 step-agreed S d m u A (Touch s x now w y) z z′ =
     let P = touch-ready S s x now w y z .put in
     let P′ = touch-ready (other S d m u) s x now w y z′ .put in
-    let G = get-agree S d m u A s x (record { sound = P .sound; site = P .site; key = P .key }) .1 in
+    let G = get-agree S d m u A s x (gets-too P) .1 in
     rw (A .entries s x .0) (put-agree G s x _ (apart-ready (learn-apart long S s x) P) (apart-ready (learn-apart short (other S d m u) s x) P′))
 step-agreed S d m u A (Deliver s o) z z′ =
     let R = deliver-ready S s o .0 z in
@@ -226,7 +231,7 @@ run-agree S T G c =
     rw (G .same) (run-agreed S (G .depends) (G .store) (G .updates) (G .agrees) c (step-agreed S (G .depends) (G .store) (G .updates) (G .agrees) c))
 
 pub same-table : {S T : State} → Agree S T → SameTable S T
-same-table G = rw (G .same) (record { sites = refl; keys = refl; applied = λ s o. refl; entries = G .agrees .entries })
+same-table G = rw (G .same) (record { sites = refl; keys = refl; retired = refl; applied = λ s o. refl; entries = G .agrees .entries })
 
 -- a drain makes the same deliveries
 pub same-made : {S T : State} → Agree S T → (s b : ℕ) → drained short T s b .made ≡ drained long S s b .made

@@ -11,12 +11,13 @@ use Rattle.clock.specs.Vector.{Vector, zeros, join, note}
 use Rattle.clock.proofs.Maps.{choice, at-is, at-same, at-is₂, related, related₂, eq?}
 use Rattle.layout.specs.State.{State, Entry, Update, withDepends, withStore, withUpdates}
 use Rattle.rules.specs.Engine.{long, short}
+use Rattle.rules.specs.Live.{Live}
 use Rattle.rules.specs.Sound.{place, Retained, Sound, sound}
 use Rattle.rules.specs.Steps as r
 use Rattle.rules.specs.Steps.{opened, next, waiting}
 use Rattle.laws.specs.Agreement.{SameEntry}
-use Rattle.laws.proofs.Ready.{OpenReady, PutReady, GetReady, DeliverReady}
-use Rattle.laws.proofs.Keeps.{up-le, up-new, depends-sound, open-sound, put-sound, deliver-sound, deliver-own, deliver-behind, deliver-retained, put-retained, put-stands}
+use Rattle.laws.proofs.Ready.{RetireReady, OpenReady, PutReady, GetReady, DeliverReady}
+use Rattle.laws.proofs.Keeps.{retire-retained, retire-sound, up-le, up-new, depends-sound, open-sound, put-sound, deliver-sound, deliver-own, deliver-behind, deliver-retained, put-retained, put-stands}
 
 -- ## Vectors and counts
 
@@ -222,14 +223,14 @@ module _ (S : State) (d : ℕ → Vector) (m : ℕ → ℕ → Entry) (u : ℕ �
   -- ## Deliver
 
   -- the update that is due, whole and short: the one is within closed counts where the other is
-  module _ (s o : ℕ) (hs : s < S .n) (ho : o < S .n) (lt : S .applied s o < S .applied o o) where
+  module _ (s o : ℕ) (hs : Live S s) (ho : o < S .n) (lt : S .applied s o < S .applied o o) where
     due : let w = waiting S s o in let z = waiting T s o in
         (w .depends ≡ A .whole o (next S s o)) × Stands (A .whole) S (z .depends) (A .whole o (next S s o)) × (z .key ≡ w .key) × (z .value ≡ w .value)
     due = A .sent o (next S s o) ho (record { made = lt; by = s; site = hs; lacks = omega arith })
 
     pub same-check : Within (waiting T s o .depends) (S .applied s) ↔ Within (waiting S s o .depends) (S .applied s)
     same-check =
-        rw (due .0) ((due .1 .1 (S .applied s) (A .closed s hs)), λ f j b. omega (arith, due .1 .0 j b, f j b))
+        rw (due .0) ((due .1 .1 (S .applied s) (A .closed s (hs .0))), λ f j b. omega (arith, due .1 .0 j b, f j b))
 
   module _ (s o : ℕ) (R : DeliverReady S s o) (R′ : DeliverReady T s o) where
     abbrev S₂ : State
@@ -243,7 +244,7 @@ module _ (S : State) (d : ℕ → Vector) (m : ℕ → ℕ → Entry) (u : ℕ �
 
     due₂ : let w = waiting S s o in let z = waiting T s o in
         (w .depends ≡ A .whole o c₂) × Stands (A .whole) S (z .depends) (A .whole o c₂) × (z .key ≡ w .key) × (z .value ≡ w .value)
-    due₂ = due s o (R .site) (R .origin) (deliver-behind S s o R)
+    due₂ = due s o (R .site, R .live) (R .origin) (deliver-behind S s o R)
 
     deliver-less : (a : Vector) → Closed (A .whole) S₂ a → Closed (A .whole) S a
     unfolding r.deliver
@@ -356,3 +357,20 @@ module _ (S : State) (d : ℕ → Vector) (m : ℕ → ℕ → Entry) (u : ℕ �
           entries = A .entries;
           stored = A .stored;
         }
+
+  -- ## Retire
+
+  pub retire-agrees : (s : ℕ) → RetireReady S s → RetireReady T s → Agrees (r.retire S s .after) d m u
+  unfolding r.retire
+  retire-agrees s R R′ =
+      record {
+        whole = A .whole;
+        sound = retire-sound S s R;
+        sound′ = retire-sound T s R′;
+        closed = A .closed;
+        within = A .within;
+        rows = A .rows;
+        sent = λ o c p t. A .sent o c p (retire-retained S s R o c t);
+        entries = A .entries;
+        stored = A .stored;
+      }

@@ -9,10 +9,10 @@ use Rattle.clock.proofs.Below.{least-is}
 use Rattle.clock.proofs.Bits.{mask-below, bit-mask}
 use Rattle.layout.specs.State.{State}
 use Rattle.rules.specs.Engine.{Engine}
-use Rattle.rules.specs.Steps.{Outcome, refused, put, get, look, deliver, touch, cold}
+use Rattle.rules.specs.Steps.{Outcome, refused, put, get, look, deliver, touch, cold, retire}
 use Rattle.rules.specs.Refusals.{first, missing}
 use Rattle.rules.specs.Drain.{Drained, drained, drain}
-use Rattle.rules.specs.Calls.{Call, Open, Put, Get, Deliver, Drain, Cold, Touch, Look, Adopt, refusals, beside, step, run}
+use Rattle.rules.specs.Calls.{Call, Open, Put, Get, Deliver, Drain, Cold, Touch, Look, Adopt, Retire, refusals, beside, step, run}
 use Rattle.laws.specs.Theorems.{Clear, needed, Enough, Spent, GivenExactly, AcceptedExactly, SpentExactly, RefusedKeeps, RefusedZeros, LowestMissing, MissingNamed}
 use Rattle.laws.proofs.Ready.{OpenReady, DrainReady, open-ready, deliver-ten, drain-ready}
 use Rattle.laws.proofs.Given.{first-given, refusals-clear, no-eleven, run-cases, run-refused, run-accepted}
@@ -21,7 +21,7 @@ use Rattle.laws.proofs.Tries.{budget-enough}
 
 -- a step answers 0, or a drain's step 11
 pub step-code : (E : Engine) (S : State) (c : Call) → (step E S c .answer .code ≡ 0) ⊎ (step E S c .answer .code ≡ 11)
-unfolding step put get look deliver drain touch cold
+unfolding step put get look deliver drain touch cold retire
 step-code E S (Open n k) = inl refl
 step-code E S (Put s x v) = inl refl
 step-code E S (Get s x) = inl refl
@@ -31,6 +31,7 @@ step-code E S (Cold s now T m) = inl refl
 step-code E S (Touch s x now u r) = inl refl
 step-code E S (Look s x) = inl refl
 step-code E S (Adopt s x o c) = inl refl
+step-code E S (Retire s) = inl refl
 
 -- a refusal other than 11 is the first condition that holds
 pub turned-down : (E : Engine) (S : State) (c : Call) (e : ℕ) → e ≢ 0 → e ≢ 11 → run E S c .answer .code ≡ e
@@ -68,6 +69,7 @@ beside-zeros S (Cold s now T m) e h = refl
 beside-zeros S (Touch s x now u r) e h = refl
 beside-zeros S (Look s x) e h = refl
 beside-zeros S (Adopt s x o c) e h = refl
+beside-zeros S (Retire s) e h = refl
 
 pub refused-zeros : RefusedZeros
 refused-zeros E S c e z y x q = ap (λ (r : Outcome). r .answer) (turned-down E S c e z x q .1) ∙ beside-zeros S c e y
@@ -76,7 +78,7 @@ pub missing-named : MissingNamed
 unfolding refusals beside
 missing-named E S s o q =
     let t = turned-down E S (Deliver s o) 10 (omega arith) (omega arith) q in
-    let l = least-is (missing S s o) 8 (deliver-ten S s o .0 (t .0) .1 .1 .1 .1) in
+    let l = least-is (missing S s o) 8 (deliver-ten S s o .0 (t .0) .1 .1 .1 .1 .1) in
     subst (λ (r : Outcome). LowestMissing S s o (r .answer)) (sym (t .1))
     (record {
       column = l .0;
@@ -95,7 +97,7 @@ module _ (E : Engine) (S : State) (s b : ℕ) (R : DrainReady S s) where
   unfolding drain
   budget-spent z =
       ⊎-elim
-      (λ (h : 903 ≤ b). absurd (omega (arith, budget-enough E S (R .sound) s b (R .site) h)))
+      (λ (h : 903 ≤ b). absurd (omega (arith, budget-enough E S (R .sound) s b (R .site, R .live) h)))
       (λ h. drained-later E S s b 903 h z)
       (le? 903 b)
 
@@ -116,7 +118,7 @@ module _ (E : Engine) (S : State) (s b : ℕ) (R : DrainReady S s) where
 -- ## The codes of a step
 
 pub step-enough : (E : Engine) (S : State) (c : Call) → first (refusals S c) ≡ 0 → (step E S c .answer .code ≡ 0) ↔ Enough E S c
-unfolding step put get look deliver drain touch cold refusals
+unfolding step put get look deliver drain touch cold retire refusals
 step-enough E S (Open n k) z = ((λ q. tt), λ q. refl)
 step-enough E S (Put s x v) z = ((λ q. tt), λ q. refl)
 step-enough E S (Get s x) z = ((λ q. tt), λ q. refl)
@@ -126,9 +128,10 @@ step-enough E S (Cold s now T m) z = ((λ q. tt), λ q. refl)
 step-enough E S (Touch s x now u r) z = ((λ q. tt), λ q. refl)
 step-enough E S (Look s x) z = ((λ q. tt), λ q. refl)
 step-enough E S (Adopt s x o c) z = ((λ q. tt), λ q. refl)
+step-enough E S (Retire s) z = ((λ q. tt), λ q. refl)
 
 pub step-spent : (E : Engine) (S : State) (c : Call) → first (refusals S c) ≡ 0 → (step E S c .answer .code ≡ 11) ↔ Spent E S c
-unfolding step put get look deliver drain touch cold refusals
+unfolding step put get look deliver drain touch cold retire refusals
 step-spent E S (Open n k) z = ((λ q. omega arith), absurd)
 step-spent E S (Put s x v) z = ((λ q. omega arith), absurd)
 step-spent E S (Get s x) z = ((λ q. omega arith), absurd)
@@ -138,6 +141,7 @@ step-spent E S (Cold s now T m) z = ((λ q. omega arith), absurd)
 step-spent E S (Touch s x now u r) z = ((λ q. omega arith), absurd)
 step-spent E S (Look s x) z = ((λ q. omega arith), absurd)
 step-spent E S (Adopt s x o c) z = ((λ q. omega arith), absurd)
+step-spent E S (Retire s) z = ((λ q. omega arith), absurd)
 
 -- a code that no refusal has
 steps-exactly : (E : Engine) (S : State) (c : Call) (e : ℕ) (Q : Type 0) → (first (refusals S c) ≢ 0 → first (refusals S c) ≢ e)

@@ -3,7 +3,7 @@ use mathlib.Core.Path.{_≡_, refl, sym, ap, subst, _∙_}
 use mathlib.Core.Bool.{false}
 use mathlib.Core.List.{List, []}
 use mathlib.Core.Logic.{⊎-elim}
-use Prim.Native.Nat.{ℕ, _^_, _<_}
+use Prim.Native.Nat.{ℕ, _+_, _^_, _<_}
 use native.Mathlib.Omega.{arith}
 use lib.Dec.{eqb}
 use lib.ListN.{getD, length, replicate, length-replicate}
@@ -23,9 +23,9 @@ use Rattle.rules.specs.Touch.{touchOf, keepsHour, touched}
 use Rattle.rules.specs.Steps.{opened, learn}
 use Rattle.rules.specs.Drain.{drained, drain, turn}
 use Rattle.rules.specs.Refusals.{first}
-use Rattle.rules.specs.Calls.{Call, Open, Put, Get, Deliver, Drain, Cold, Touch, Look, Adopt, refusals, step, run}
-use Rattle.laws.proofs.Ready.{OpenReady, PutReady, GetReady, DeliverReady, open-ready, put-ready, get-ready, adopt-ready, deliver-ready, TouchReady, touch-ready}
-use Rattle.laws.proofs.Keeps.{get-origin, deliver-behind, deliver-waiting}
+use Rattle.rules.specs.Calls.{Call, Open, Put, Get, Deliver, Drain, Cold, Touch, Look, Adopt, Retire, refusals, step, run}
+use Rattle.laws.proofs.Ready.{gets-too, RetireReady, retire-ready, OpenReady, PutReady, GetReady, DeliverReady, open-ready, put-ready, get-ready, adopt-ready, deliver-ready, TouchReady, touch-ready}
+use Rattle.laws.proofs.Keeps.{get-origin, deliver-behind, deliver-waiting, retire-byte}
 use Rattle.laws.proofs.Touching.{learn-apart, apart-ready}
 use Rattle.laws.proofs.Draining.{by-deliveries}
 use Rattle.laws.proofs.After.{after-run}
@@ -142,7 +142,7 @@ module _ (E : Engine) (L : FitsEngine E) (S : State) (F : Fits S) where
       let q : x < 64 = omega (arith, R .key, R .sound .keys) in
       let c : r.next S s s < 256 ^ 2 = omega (arith, applied-fits S F s s p p, R .clock) in
       let old = entry-fits S F s x p q in
-      let d = L .sent _ _ (depends-fits S F s p) old (omega (arith, get-origin S s x (record { sound = R .sound; site = R .site; key = R .key }), R .sound .sites)) in
+      let d = L .sent _ _ (depends-fits S F s p) old (omega (arith, get-origin S s x (gets-too R), R .sound .sites)) in
       let u : Update = record { value = v; key = x; zero = 0; clock = r.next S s s; depends = E .sent (S .depends s) (S .store s x) } in
       let e : Entry = record { value = v; origin = s; zero = 0; clock = r.next S s s; depends = E .own (u .depends) } in
       let U = with-update S F s (place (r.next S s s)) u p (omega arith) (h, (omega arith, (omega arith, (c, d)))) in
@@ -173,6 +173,11 @@ module _ (E : Engine) (L : FitsEngine E) (S : State) (F : Fits S) where
       (λ z. F) in
       with-count _ N s o _ p q c
 
+-- a bit more is still a byte
+retire-fits : (S : State) → Fits S → (s : ℕ) → RetireReady S s → Fits (r.retire S s .after)
+unfolding r.retire
+retire-fits S F s R = (F .0, (F .1 .0, (retire-byte S s R, F .1 .1 .1)))
+
 -- a touch record is 4 bytes
 touched-fits : (S : State) (s x now u w : ℕ) → Fits S → TouchReady S s x now u w → touched (S .store s x .value) now u w < 256 ^ 4
 touched-fits S s x now u w F R =
@@ -184,7 +189,7 @@ touch-fits : (E : Engine) → FitsEngine E → (S : State) (s x now u w : ℕ) �
 unfolding r.touch r.get
 touch-fits E L S s x now u w F R =
     let P = R .put in
-    let G : GetReady S s x = record { sound = P .sound; site = P .site; key = P .key } in
+    let G = gets-too P in
     put-fits E L (learn E S s x) (get-fits E L S F s x G) s x _ (apart-ready (learn-apart E S s x) P) (touched-fits S s x now u w F R)
 
 drained-fits : (E : Engine) → FitsEngine E → (S : State) (s b : ℕ) → Fits S → Fits (drained E S s b .after)
@@ -213,6 +218,9 @@ look-sized s x s′ x′ v′ e = let z : _≡_ {A = ℕ} 0 1 = cc in omega arit
 pub adopt-sized : (s x o c : ℕ) → Sized (Adopt s x o c)
 adopt-sized s x o c s′ x′ v′ e = let z : _≡_ {A = ℕ} 0 1 = cc in omega arith
 
+pub retire-sized : (s : ℕ) → Sized (Retire s)
+retire-sized s s′ x′ v′ e = let z : _≡_ {A = ℕ} 0 1 = cc in omega arith
+
 pub deliver-sized : (s o : ℕ) → Sized (Deliver s o)
 deliver-sized s o s′ x′ v′ e = let z : _≡_ {A = ℕ} 0 1 = cc in omega arith
 
@@ -227,6 +235,7 @@ step-fits E L S (Cold s now T m) h F z = F
 step-fits E L S (Touch s x now u w) h F z = touch-fits E L S s x now u w F (touch-ready S s x now u w z)
 step-fits E L S (Look s x) h F z = F
 step-fits E L S (Adopt s x o c) h F z = get-fits E L S F s x (adopt-ready S s x o c .0 z .get)
+step-fits E L S (Retire s) h F z = retire-fits S F s (retire-ready S s .0 z)
 
 pub run-fits : (E : Engine) → FitsEngine E → (S : State) (c : Call) → Sized c → Fits S → Fits (run E S c .after)
 run-fits E L S c h F = after-run E S c Fits (step-fits E L S c h F) F

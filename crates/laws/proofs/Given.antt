@@ -12,8 +12,8 @@ use Rattle.clock.proofs.Says.{Says, Denies}
 use Rattle.layout.specs.State.{State, stateOf}
 use Rattle.rules.specs.Engine.{Engine}
 use Rattle.rules.specs.Steps.{Numbers, Outcome}
-use Rattle.rules.specs.Refusals.{Refusals, first, open-refusals, put-refusals, get-refusals, adopt-refusals, deliver-refusals, site-refusals, touch-refusals, unless}
-use Rattle.rules.specs.Calls.{Call, Open, Put, Get, Deliver, Drain, Cold, Touch, Look, Adopt, words, inside, refusals, beside, step, run, asks}
+use Rattle.rules.specs.Refusals.{Refusals, first, open-refusals, put-refusals, get-refusals, adopt-refusals, deliver-refusals, site-refusals, touch-refusals, retire-refusals, unless}
+use Rattle.rules.specs.Calls.{Call, Open, Put, Get, Deliver, Drain, Cold, Touch, Look, Adopt, Retire, words, inside, refusals, beside, step, run, asks}
 use Rattle.laws.specs.Theorems.{Given, Clear, CodesListed, FollowsOrder}
 
 -- ## The first condition that holds
@@ -83,9 +83,10 @@ words-proper (Cold s now T m) = omega arith
 words-proper (Touch s x now u r) = omega arith
 words-proper (Look s x) = (tt, tt)
 words-proper (Adopt s x o c) = (tt, tt)
+words-proper (Retire s) = (tt, tt)
 
 inside-proper : (S : State) (c : Call) → Proper (inside S c)
-unfolding open-refusals put-refusals get-refusals adopt-refusals deliver-refusals site-refusals touch-refusals
+unfolding open-refusals put-refusals get-refusals adopt-refusals deliver-refusals site-refusals touch-refusals retire-refusals
 inside-proper S (Open n k) = omega arith
 inside-proper S (Put s x v) = omega arith
 inside-proper S (Get s x) = omega arith
@@ -95,6 +96,7 @@ inside-proper S (Cold s now T m) = omega arith
 inside-proper S (Touch s x now u r) = omega arith
 inside-proper S (Look s x) = omega arith
 inside-proper S (Adopt s x o c) = omega arith
+inside-proper S (Retire s) = omega arith
 
 pub refusals-proper : (S : State) (c : Call) → Proper (refusals S c)
 unfolding refusals
@@ -102,7 +104,7 @@ refusals-proper S c = append-proper (words c) (inside S c) (words-proper c) (ins
 
 -- 1 is asked of the buffer alone
 pub no-one : (S : State) (c : Call) → first (refusals S c) ≢ 1
-unfolding refusals open-refusals put-refusals get-refusals adopt-refusals deliver-refusals site-refusals touch-refusals
+unfolding refusals open-refusals put-refusals get-refusals adopt-refusals deliver-refusals site-refusals touch-refusals retire-refusals
 no-one S c = first-avoids 1 (refusals S c) (omega arith) (avoids S c)
   where
     avoids : (S : State) (c : Call) → Avoids 1 (refusals S c)
@@ -115,6 +117,7 @@ no-one S c = first-avoids 1 (refusals S c) (omega arith) (avoids S c)
     avoids S (Touch s x now u r) = omega arith
     avoids S (Look s x) = omega arith
     avoids S (Adopt s x o c) = omega arith
+    avoids S (Retire s) = omega arith
 
 pub asks-proper : (t : List ℕ) (c : Call) → Proper (asks t c)
 unfolding asks
@@ -129,7 +132,7 @@ pub no-eleven : (S : State) (c : Call) → first (refusals S c) ≢ 11
 no-eleven S c = first-avoids 11 (refusals S c) (omega arith) (refusals-proper S c .1)
 
 pub codes-listed : CodesListed
-unfolding refusals open-refusals put-refusals get-refusals adopt-refusals deliver-refusals site-refusals touch-refusals
+unfolding refusals open-refusals put-refusals get-refusals adopt-refusals deliver-refusals site-refusals touch-refusals retire-refusals
 codes-listed S (Open n k) = refl
 codes-listed S (Put s x v) = refl
 codes-listed S (Get s x) = refl
@@ -139,9 +142,10 @@ codes-listed S (Cold s now T m) = refl
 codes-listed S (Touch s x now u r) = refl
 codes-listed S (Look s x) = refl
 codes-listed S (Adopt s x o c) = refl
+codes-listed S (Retire s) = refl
 
 pub follows-order : FollowsOrder
-unfolding asks refusals open-refusals put-refusals get-refusals adopt-refusals deliver-refusals site-refusals touch-refusals
+unfolding asks refusals open-refusals put-refusals get-refusals adopt-refusals deliver-refusals site-refusals touch-refusals retire-refusals
 follows-order t (Open n k) = refl
 follows-order t (Put s x v) = refl
 follows-order t (Get s x) = refl
@@ -151,6 +155,7 @@ follows-order t (Cold s now T m) = refl
 follows-order t (Touch s x now u r) = refl
 follows-order t (Look s x) = refl
 follows-order t (Adopt s x o c) = refl
+follows-order t (Retire s) = refl
 
 -- ## What a call does
 
@@ -165,6 +170,7 @@ beside-code S (Cold s now T m) e = refl
 beside-code S (Touch s x now u r) e = refl
 beside-code S (Look s x) e = refl
 beside-code S (Adopt s x o c) e = refl
+beside-code S (Retire s) e = refl
 
 -- the step where no condition holds; else a refusal
 pub run-cases : (E : Engine) (S : State) (c : Call)

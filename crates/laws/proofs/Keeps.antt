@@ -1,17 +1,20 @@
 -- Put, get and deliver keep a table sound. Assumes nothing.
 use mathlib.Core.Path.{_≡_, refl, sym, ap, subst, _∙_}
+use mathlib.Core.Bool.{false}
 use mathlib.Core.Logic.{_⊎_, inl, inr, ⊎-elim, _≢_}
-use Prim.Native.Nat.{ℕ, suc, _+_, _≤_, _<_}
+use Prim.Native.Nat.{ℕ, suc, _+_, _^_, _≤_, _<_}
 use native.Mathlib.Omega.{arith}
 use lib.Dec.{eqb}
 use Rattle.clock.specs.Map.{_⟨_≔_⟩, _⟨_⟩⟨_≔_⟩}
 use Rattle.clock.specs.Vector.{Vector}
-use Rattle.clock.proofs.Maps.{choice, eq?, at-is₂}
+use Rattle.clock.proofs.Maps.{both, choice, eq?, at-is₂}
 use Rattle.layout.specs.State.{State, Entry, Update, withDepends}
+use Rattle.rules.specs.Live.{gone, Live}
 use Rattle.rules.specs.Sound.{place, Blank, Written, Retained, Sound}
 use Rattle.rules.specs.Engine.{Engine}
-use Rattle.rules.specs.Steps.{opened, put, learn, get, deliver, next, waiting}
-use Rattle.laws.proofs.Ready.{OpenReady, PutReady, GetReady, DeliverReady}
+use Rattle.rules.specs.Steps.{opened, put, learn, get, deliver, next, waiting, retire}
+use Rattle.laws.proofs.Ready.{OpenReady, PutReady, GetReady, DeliverReady, RetireReady}
+use Rattle.laws.proofs.Bits.{bit-own, bit-other, bit-below, bit-none, two-most}
 
 -- ## A count one higher
 
@@ -61,7 +64,9 @@ open-sound n k R =
     record {
       sites = R .sites;
       keys = R .keys;
-      zeros = (refl, refl);
+      retired = two-most 0 n (omega arith);
+      someone = (0, (omega (arith, R .sites), bit-none 0));
+      zero = refl;
       most = λ s o p q. omega arith;
       room = λ s o p q. omega arith;
       entries = λ s x p q. inl (record { value = refl; origin = refl; zero = refl; clock = refl; depends = λ j h. refl });
@@ -76,7 +81,7 @@ module _ (S : State) (s o : ℕ) (R : DeliverReady S s o) where
 
   -- the next update stands at its place
   pub deliver-waiting : (waiting S s o .clock ≡ next S s o) × (waiting S s o .key < S .k)
-  deliver-waiting = R .sound .kept o (next S s o) (R .origin) (record { made = deliver-behind; by = s; site = R .site; lacks = omega arith })
+  deliver-waiting = R .sound .kept o (next S s o) (R .origin) (record { made = deliver-behind; by = s; site = (R .site, R .live); lacks = omega arith })
 
 module _ (E : Engine) (S : State) (s o : ℕ) (R : DeliverReady S s o) where
   abbrev T₁ : State
@@ -110,7 +115,9 @@ module _ (E : Engine) (S : State) (s o : ℕ) (R : DeliverReady S s o) where
       record {
         sites = R .sound .sites;
         keys = R .sound .keys;
-        zeros = R .sound .zeros;
+        retired = R .sound .retired;
+        someone = R .sound .someone;
+        zero = R .sound .zero;
         most = deliver-most;
         room = λ s′ o′ p q. omega (arith, deliver-own o′, up-le (S .applied) s o s′ o′, R .sound .room s′ o′ p q);
         entries = λ s′ x p q.
@@ -129,7 +136,9 @@ depends-sound S d D =
     record {
       sites = D .sites;
       keys = D .keys;
-      zeros = D .zeros;
+      retired = D .retired;
+      someone = D .someone;
+      zero = D .zero;
       most = D .most;
       room = D .room;
       entries = λ s x p q. ⊎-elim inl (λ w. inr (record { origin = w .origin; some = w .some; applied = w .applied })) (D .entries s x p q);
@@ -203,7 +212,7 @@ module _ (E : Engine) (S : State) (s x v : ℕ) (R : PutReady S s x) where
       (λ r. omega (arith, r .1, R .sound .most s′ o p q, up-le (S .applied) s s o o))
       (at-is₂ (S .applied) s s (next S s s) s′ o)
 
-  put-sixteen : (s′ o : ℕ) → s′ < S .n → o < S .n → T₂ .applied o o ≤ T₂ .applied s′ o + 16
+  put-sixteen : (s′ o : ℕ) → Live S s′ → o < S .n → T₂ .applied o o ≤ T₂ .applied s′ o + 16
   unfolding put
   put-sixteen s′ o p q =
       ⊎-elim
@@ -217,7 +226,9 @@ module _ (E : Engine) (S : State) (s x v : ℕ) (R : PutReady S s x) where
       record {
         sites = R .sound .sites;
         keys = R .sound .keys;
-        zeros = R .sound .zeros;
+        retired = R .sound .retired;
+        someone = R .sound .someone;
+        zero = R .sound .zero;
         most = put-most;
         room = put-sixteen;
         entries = λ s′ x′ p q. entry-kept S T₂ s s refl refl x _ (R .site) refl refl s′ x′ (R .sound .entries s′ x′ p q);
@@ -227,3 +238,47 @@ module _ (E : Engine) (S : State) (s x v : ℕ) (R : PutReady S s x) where
             (λ e. subst (λ (y : Update). (y .clock ≡ c) × (y .key < S .k)) (sym (e .1)) (R .sound .kept o c p (e .0)))
             (put-retained o c r);
       }
+
+-- ## Retire
+
+module _ (S : State) (s : ℕ) (R : RetireReady S s) where
+  abbrev T₃ : State
+  T₃ = retire S s .after
+
+  -- who is live after it was live before, and is another
+  pub retire-live : (t : ℕ) → Live T₃ t → Live S t × (t ≢ s)
+  unfolding retire
+  retire-live t l =
+      ⊎-elim
+      (λ (e : s ≡ t). both (bit-own (S .retired) s (R .live)) (subst (λ (z : ℕ). gone T₃ z ≡ false) (sym e) (l .1)))
+      (λ (e : s ≢ t). ((l .0, sym (bit-other (S .retired) s t (R .live) e) ∙ l .1), λ q. e (sym q)))
+      (eq? s t)
+
+  pub retire-stays : (t : ℕ) → Live S t → t ≢ s → Live T₃ t
+  unfolding retire
+  retire-stays t l e = (l .0, bit-other (S .retired) s t (R .live) (λ q. e (sym q)) ∙ l .1)
+
+  pub retire-retained : (o c : ℕ) → Retained T₃ o c → Retained S o c
+  unfolding retire
+  retire-retained o c r = record { made = r .made; by = r .by; site = retire-live (r .by) (r .site) .0; lacks = r .lacks }
+
+  pub retire-sound : Sound T₃
+  unfolding retire
+  retire-sound =
+      let D = R .sound in
+      let (t, l, e) = R .another in
+      record {
+        sites = D .sites;
+        keys = D .keys;
+        retired = bit-below (S .n) s (S .retired) (D .retired) (R .site) (R .live);
+        someone = (t, retire-stays t l e);
+        zero = D .zero;
+        most = D .most;
+        room = λ s′ o p. D .room s′ o (retire-live s′ p .0);
+        entries = λ s′ x p q. ⊎-elim inl (λ w. inr (record { origin = w .origin; some = w .some; applied = w .applied })) (D .entries s′ x p q);
+        kept = λ o c p r. D .kept o c p (retire-retained o c r);
+      }
+
+  -- the set of retired sites stays a byte
+  pub retire-byte : S .retired + 2 ^ s < 256
+  retire-byte = omega (arith, bit-below (S .n) s (S .retired) (R .sound .retired) (R .site) (R .live), two-most (S .n) 8 (R .sound .sites .1))

@@ -1,6 +1,7 @@
 pub mod Given
 pub mod Tested
 pub mod Ready
+pub mod Bits
 pub mod Keeps
 pub mod Records
 pub mod Touching
@@ -21,3 +22,4 @@ pub mod Agreed
 pub mod Sharing
 pub mod Spare
 pub mod Elsewhere
+pub mod Retiring

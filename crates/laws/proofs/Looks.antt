@@ -13,6 +13,7 @@ use Rattle.clock.proofs.Says.{says-itself, denies-not}
 use Rattle.layout.specs.State.{State, stateOf, bytesOf, table}
 use Rattle.layout.specs.Ranges.{Bytes}
 use Rattle.layout.proofs.TableTrips.{bytes-back}
+use Rattle.rules.specs.Live.{gone}
 use Rattle.rules.specs.Sound.{sound}
 use Rattle.rules.specs.Engine.{Engine, ours}
 use Rattle.rules.specs.Steps.{refused, done, learn, get, look, cold}
@@ -49,13 +50,14 @@ cold-keeps t b l s now T = kept ours t b (Cold s now T _) refl
 -- ## Adopt
 
 -- what a get's list does not answer 0 to, an adopt's of (0, 0) answers alike: on a sound table 0 is a site
-same-first : (a b c d e f : Bool) → (b ≡ false → e ≡ false) → first ((1, a) ∷ (2, b) ∷ (4, c) ∷ (6, d) ∷ []) ≢ 0
-    → first ((1, a) ∷ (2, b) ∷ (4, c || e) ∷ (6, d) ∷ (15, f) ∷ []) ≡ first ((1, a) ∷ (2, b) ∷ (4, c) ∷ (6, d) ∷ [])
-same-first true b c d e f h z = refl
-same-first false true c d e f h z = refl
-same-first false false true d e f h z = refl
-same-first false false false true e f h z = rw (h refl)
-same-first false false false false e f h z = absurd (z refl)
+same-first : (a b c g d e f : Bool) → (b ≡ false → e ≡ false) → first ((1, a) ∷ (2, b) ∷ (4, c) ∷ (16, g) ∷ (6, d) ∷ []) ≢ 0
+    → first ((1, a) ∷ (2, b) ∷ (4, c || e) ∷ (16, g) ∷ (6, d) ∷ (15, f) ∷ []) ≡ first ((1, a) ∷ (2, b) ∷ (4, c) ∷ (16, g) ∷ (6, d) ∷ [])
+same-first true b c g d e f h z = refl
+same-first false true c g d e f h z = refl
+same-first false false true g d e f h z = refl
+same-first false false false true d e f h z = rw (h refl)
+same-first false false false false true e f h z = rw (h refl)
+same-first false false false false false e f h z = absurd (z refl)
 
 module _ (t : List ℕ) (s x : ℕ) where
   abbrev S : State
@@ -64,7 +66,7 @@ module _ (t : List ℕ) (s x : ℕ) where
   asks-alike : first (asks t (Look s x)) ≢ 0 → first (asks t (Adopt s x 0 0)) ≡ first (asks t (Look s x))
   unfolding asks refusals get-refusals adopt-refusals
   asks-alike =
-      same-first (not (eqb (length t) (table .width))) (not (sound S)) (leb (S .n) s) (leb (S .k) x) (leb (S .n) 0) (not (eqb (S .store s x .origin) 0 && eqb (S .store s x .clock) 0))
+      same-first (not (eqb (length t) (table .width))) (not (sound S)) (leb (S .n) s) (gone S s) (leb (S .k) x) (leb (S .n) 0) (not (eqb (S .store s x .origin) 0 && eqb (S .store s x .clock) 0))
       (λ h. lt-leb (S .n) 0 (omega (arith, sound-tested S .0 (denies-not (says-itself (sound S)) .0 h) .sites)))
 
   -- no condition of a look holds: then none of an adopt of its entry

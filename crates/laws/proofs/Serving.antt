@@ -14,7 +14,7 @@ use Rattle.layout.proofs.TableTrips.{bytes-back}
 use Rattle.rules.specs.Engine.{Engine}
 use Rattle.rules.specs.Steps.{Outcome, refused}
 use Rattle.rules.specs.Refusals.{Refusals, first}
-use Rattle.rules.specs.Calls.{Call, Open, Put, Get, Deliver, Drain, Cold, Touch, Look, Adopt, words, inside, refusals, beside, step, run, asks, Served, serve}
+use Rattle.rules.specs.Calls.{Call, Open, Put, Get, Deliver, Drain, Cold, Touch, Look, Adopt, Retire, words, inside, refusals, beside, step, run, asks, Served, serve}
 use Rattle.laws.proofs.Given.{Avoids, words-proper, run-cases, beside-code}
 
 -- the answer of an outcome, and its state laid out
@@ -52,6 +52,7 @@ beside-words S (Cold s now T m) = refl
 beside-words S (Touch s x now u r) = refl
 beside-words S (Look s x) = refl
 beside-words S (Adopt s x o c) = refl
+beside-words S (Retire s) = refl
 
 module _ (t : List ℕ) (c : Call) where
   pub asks-long : length t ≡ table .width → first (asks t c) ≡ first (refusals (stateOf t) c)

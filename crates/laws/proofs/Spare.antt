@@ -8,9 +8,9 @@ use Rattle.clock.specs.Map.{_⟨_⟩⟨_≔_⟩}
 use Rattle.clock.proofs.Maps.{choice, at-is₂}
 use Rattle.layout.specs.State.{State, Entry}
 use Rattle.rules.specs.Engine.{Engine}
-use Rattle.rules.specs.Steps.{opened, put, learn, get, look, waiting, deliver, touch, cold}
+use Rattle.rules.specs.Steps.{opened, put, learn, get, look, waiting, deliver, touch, cold, retire}
 use Rattle.rules.specs.Drain.{turn, drained, drain}
-use Rattle.rules.specs.Calls.{Call, Open, Put, Get, Deliver, Drain, Cold, Touch, Look, Adopt, step, run}
+use Rattle.rules.specs.Calls.{Call, Open, Put, Get, Deliver, Drain, Cold, Touch, Look, Adopt, Retire, step, run}
 use Rattle.laws.proofs.Touching.{learn-apart}
 use Rattle.laws.proofs.Draining.{by-deliveries}
 use Rattle.laws.proofs.After.{after-run}
@@ -50,7 +50,7 @@ unfolding opened
 open-spare n k s x = refl
 
 step-spare : (E : Engine) (S : State) (c : Call) → Spare S → Spare (step E S c .after)
-unfolding step get look drain touch cold
+unfolding step get look drain touch cold retire
 step-spare E S (Open n k) Z = open-spare n k
 step-spare E S (Put s x v) Z = put-spare E S Z s x v
 step-spare E S (Get s x) Z = learn-spare E S Z s x
@@ -60,6 +60,7 @@ step-spare E S (Cold s now T m) Z = Z
 step-spare E S (Touch s x now u r) Z = put-spare E _ (learn-spare E S Z s x) s x _
 step-spare E S (Look s x) Z = Z
 step-spare E S (Adopt s x o c) Z = learn-spare E S Z s x
+step-spare E S (Retire s) Z = Z
 
 pub run-spare : (E : Engine) (S : State) (c : Call) → Spare S → Spare (run E S c .after)
 run-spare E S c Z = after-run E S c Spare (λ z. step-spare E S c Z) Z

@@ -15,7 +15,7 @@ use Rattle.rules.specs.Engine.{Engine}
 use Rattle.rules.specs.Steps.{Outcome, put, learn, get, touch, cold}
 use Rattle.rules.specs.Calls.{Put, Get, Cold, Touch, refusals, step, run}
 use Rattle.laws.specs.Touches.{ColdAnswers, TouchIsBoth, ScanKeepsColdness}
-use Rattle.laws.proofs.Ready.{put-ready, get-ready, TouchReady, touch-ready}
+use Rattle.laws.proofs.Ready.{gets-too, put-ready, get-ready, TouchReady, touch-ready}
 use Rattle.laws.proofs.Given.{run-accepted}
 use Rattle.laws.proofs.Codes.{accepted-first}
 use Rattle.laws.proofs.Records.{touch-back, touch-formed}
@@ -28,7 +28,7 @@ touch-is-both E S s x now u r z =
     let a = run-accepted E S (Touch s x now u r) z in
     let P = touch-ready S s x now u r (a .0) .put in
     let v = touched (S .store s x .value) now u r in
-    let g : run E S (Get s x) .answer .code ≡ 0 = accepted-first E S (Get s x) refl .1 (get-ready S s x .1 (record { sound = P .sound; site = P .site; key = P .key })) in
+    let g : run E S (Get s x) .answer .code ≡ 0 = accepted-first E S (Get s x) refl .1 (get-ready S s x .1 (gets-too P)) in
     let f : run E S (Get s x) .after ≡ learn E S s x = ap (λ (o : Outcome). o .after) (run-accepted E S (Get s x) g .1) in
     let w = accepted-first E (learn E S s x) (Put s x v) refl .1 (put-ready (learn E S s x) s x .1 (apart-ready (learn-apart E S s x) P)) in
     record { gets = g; puts = a .1 ∙ sym (run-accepted E (learn E S s x) (Put s x v) w .1) ∙ ap (λ (T : State). run E T (Put s x v)) (sym f) }

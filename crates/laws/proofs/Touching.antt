@@ -26,7 +26,7 @@ apart-sound {S} p D = subst Sound (sym (p .1)) (depends-sound S (p .0) D)
 pub apart-ready : {S T : State} {s x : ℕ} → Apart S T → PutReady S s x → PutReady T s x
 apart-ready {S} {s = s} {x = x} p R =
     subst (λ (T : State). PutReady T s x) (sym (p .1))
-    (record { sound = depends-sound S (p .0) (R .sound); site = R .site; key = R .key; clock = R .clock; room = R .room })
+    (record { sound = depends-sound S (p .0) (R .sound); site = R .site; live = R .live; key = R .key; clock = R .clock; room = R .room })
 
 pub touch-sound : (E : Engine) (S : State) (s x now u r : ℕ) → PutReady S s x → Sound (touch E S s x now u r .after)
 unfolding touch

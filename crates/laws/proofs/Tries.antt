@@ -156,11 +156,11 @@ tries-bounded E S s b h = omega (arith, drained-bounded E S s b h .0)
 pub pending-bounded : PendingBounded
 unfolding pending
 pending-bounded S D s h =
-    omega (arith, D .sites .1, sum-most-but (λ o. S .applied o o - S .applied s o) (S .n) s h (omega arith) (λ i p. omega (arith, D .room s i h p)))
+    omega (arith, D .sites .1, sum-most-but (λ o. S .applied o o - S .applied s o) (S .n) s (h .0) (omega arith) (λ i p. omega (arith, D .room s i h p)))
 
 pub budget-enough : BudgetEnough
 unfolding drain
 budget-enough E S D s b h l =
     let p = pending-bounded S D s h in
-    drained-bounded E S s b h .1
+    drained-bounded E S s b (h .0) .1
     (omega (arith, mul-le-mul {n₁ = S .n - 1} {m₁ = pending S s + 1} {n₂ = 7} {m₂ = 113} (omega (arith, D .sites .1)) (omega arith)))

@@ -6,7 +6,7 @@ use Prim.Native.Nat.{ℕ}
 use Rattle.layout.specs.State.{State, Entry}
 use Rattle.rules.specs.Engine.{Engine}
 use Rattle.rules.specs.Steps.{Numbers}
-use Rattle.rules.specs.Calls.{Open, Look, Cold, serve}
+use Rattle.rules.specs.Calls.{Open, Look, Cold, Retire, serve}
 
 -- the value, origin and clock of an entry
 abbrev pub SameEntry : Entry → Entry → Type 0
@@ -16,6 +16,7 @@ SameEntry e f = (f .value ≡ e .value) × (f .origin ≡ e .origin) × (f .cloc
 pub record SameTable (S T : State) : Type 0 where
   pub sites : T .n ≡ S .n
   pub keys : T .k ≡ S .k
+  pub retired : T .retired ≡ S .retired
   pub applied : (s o : ℕ) → T .applied s o ≡ S .applied s o
   pub entries : (s x : ℕ) → SameEntry (S .store s x) (T .store s x)
 
@@ -25,8 +26,9 @@ pub record SameAnswer (a b : Numbers) : Type 0 where
   pub key : b .key ≡ a .key
   pub others : a .code ≢ 10 → b ≡ a
 
--- open, look and the cold list serve every engine: on the same bytes they do the same
+-- open, look, the cold list and retire serve every engine: on the same bytes they do the same
 pub record EngineFree : Type 0 where
   pub opens : (E F : Engine) (t : List ℕ) (n k : ℕ) → serve E t (Open n k) ≡ serve F t (Open n k)
   pub looks : (E F : Engine) (t : List ℕ) (s x : ℕ) → serve E t (Look s x) ≡ serve F t (Look s x)
   pub lists : (E F : Engine) (t : List ℕ) (s now threshold room : ℕ) → serve E t (Cold s now threshold room) ≡ serve F t (Cold s now threshold room)
+  pub retires : (E F : Engine) (t : List ℕ) (s : ℕ) → serve E t (Retire s) ≡ serve F t (Retire s)

@@ -2,3 +2,4 @@ pub mod Theorems
 pub mod Touches
 pub mod Looks
 pub mod Agreement
+pub mod Retirement

@@ -7,12 +7,13 @@ use Prim.Native.Nat.{ℕ, _+_, _*_, _-_, _≤_, _<_}
 use lib.ListN.{length}
 use Rattle.clock.specs.Map.{bit, sum}
 use Rattle.layout.specs.State.{State}
+use Rattle.rules.specs.Live.{Live}
 use Rattle.rules.specs.Sound.{sound, Sound}
 use Rattle.rules.specs.Engine.{Engine}
 use Rattle.rules.specs.Steps.{Numbers, refused, waiting}
 use Rattle.rules.specs.Refusals.{order, Refusals, listed, follows, missing}
 use Rattle.rules.specs.Drain.{drained, drain}
-use Rattle.rules.specs.Calls.{Call, Open, Put, Get, Deliver, Drain, Cold, Touch, Look, Adopt, refusals, run, asks}
+use Rattle.rules.specs.Calls.{Call, Open, Put, Get, Deliver, Drain, Cold, Touch, Look, Adopt, Retire, refusals, run, asks}
 
 -- ## Sound tables
 
@@ -47,14 +48,15 @@ Clear (p ∷ ps) = (p .1 ≡ false) × Clear ps
 -- the codes with a condition, for each call
 abbrev pub codes : Call → List ℕ
 codes (Open n k) = 3 ∷ []
-codes (Put s x v) = 2 ∷ 4 ∷ 6 ∷ 7 ∷ 8 ∷ []
-codes (Get s x) = 2 ∷ 4 ∷ 6 ∷ []
-codes (Deliver s o) = 2 ∷ 4 ∷ 5 ∷ 9 ∷ 10 ∷ []
-codes (Drain s b) = 2 ∷ 4 ∷ []
-codes (Cold s now T m) = 14 ∷ 2 ∷ 4 ∷ []
-codes (Touch s x now u r) = 14 ∷ 2 ∷ 4 ∷ 6 ∷ 13 ∷ 7 ∷ 8 ∷ []
-codes (Look s x) = 2 ∷ 4 ∷ 6 ∷ []
-codes (Adopt s x o c) = 2 ∷ 4 ∷ 6 ∷ 15 ∷ []
+codes (Put s x v) = 2 ∷ 4 ∷ 16 ∷ 6 ∷ 7 ∷ 8 ∷ []
+codes (Get s x) = 2 ∷ 4 ∷ 16 ∷ 6 ∷ []
+codes (Deliver s o) = 2 ∷ 4 ∷ 5 ∷ 16 ∷ 9 ∷ 10 ∷ []
+codes (Drain s b) = 2 ∷ 4 ∷ 16 ∷ []
+codes (Cold s now T m) = 14 ∷ 2 ∷ 4 ∷ 16 ∷ []
+codes (Touch s x now u r) = 14 ∷ 2 ∷ 4 ∷ 16 ∷ 6 ∷ 13 ∷ 7 ∷ 8 ∷ []
+codes (Look s x) = 2 ∷ 4 ∷ 16 ∷ 6 ∷ []
+codes (Adopt s x o c) = 2 ∷ 4 ∷ 16 ∷ 6 ∷ 15 ∷ []
+codes (Retire s) = 2 ∷ 4 ∷ 16 ∷ 17 ∷ []
 
 abbrev pub CodesListed : Type 0
 CodesListed = (S : State) (c : Call) → listed (refusals S c) ≡ codes c
@@ -82,6 +84,7 @@ Enough E S (Cold s now T m) = Unit {0}
 Enough E S (Touch s x now u r) = Unit {0}
 Enough E S (Look s x) = Unit {0}
 Enough E S (Adopt s x o c) = Unit {0}
+Enough E S (Retire s) = Unit {0}
 
 abbrev pub Spent : Engine → State → Call → Type 0
 Spent E S (Open n k) = ⊥
@@ -93,6 +96,7 @@ Spent E S (Cold s now T m) = ⊥
 Spent E S (Touch s x now u r) = ⊥
 Spent E S (Look s x) = ⊥
 Spent E S (Adopt s x o c) = ⊥
+Spent E S (Retire s) = ⊥
 
 -- 0 is answered exactly when no condition holds and the budget is enough
 abbrev pub AcceptedExactly : Type 0
@@ -154,11 +158,11 @@ TriesBounded = (E : Engine) (S : State) (s b : ℕ) → s < S .n → drain E S s
 
 -- "P is at most 112"
 abbrev pub PendingBounded : Type 0
-PendingBounded = (S : State) → Sound S → (s : ℕ) → s < S .n → pending S s ≤ 112
+PendingBounded = (S : State) → Sound S → (s : ℕ) → Live S s → pending S s ≤ 112
 
 -- "so a budget of 903 is always enough"
 abbrev pub BudgetEnough : Type 0
-BudgetEnough = (E : Engine) (S : State) → Sound S → (s b : ℕ) → s < S .n → 903 ≤ b → drain E S s b .answer .code ≡ 0
+BudgetEnough = (E : Engine) (S : State) → Sound S → (s b : ℕ) → Live S s → 903 ≤ b → drain E S s b .answer .code ≡ 0
 
 -- with a smaller budget the deliveries are the first of those with a larger one
 abbrev pub DrainPrefix : Type 0

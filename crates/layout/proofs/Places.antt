@@ -43,12 +43,12 @@ n-byte = in-table (first byte (byte then byte then byte then applied))
 pub k-byte : Field table byte 1 (λ S. S .k) (λ S v. toState (S .n, (v, ofState S .1 .1)))
 k-byte = in-table (inner (second byte (byte then byte then byte then applied)) (first byte (byte then byte then applied)))
 
-pub byte2 : Field table byte 2 (λ S. S .byte2) (λ S v. toState (S .n, (S .k, (v, ofState S .1 .1 .1))))
-byte2 =
+pub retired : Field table byte 2 (λ S. S .retired) (λ S v. toState (S .n, (S .k, (v, ofState S .1 .1 .1))))
+retired =
     in-table
     (inner (second byte (byte then byte then byte then applied)) (inner (second byte (byte then byte then applied)) (first byte (byte then applied))))
 
-pub byte3 : Field table byte 3 (λ S. S .byte3) (λ S v. toState (S .n, (S .k, (S .byte2, (v, ofState S .1 .1 .1 .1)))))
+pub byte3 : Field table byte 3 (λ S. S .byte3) (λ S v. toState (S .n, (S .k, (S .retired, (v, ofState S .1 .1 .1 .1)))))
 byte3 =
     in-table
     (inner (second byte (byte then byte then byte then applied))

@@ -1,8 +1,11 @@
 -- The table's round trips. Assumes nothing.
 use mathlib.Core.Path.{refl}
+use Prim.Native.Nat.{zero, suc}
+use native.Mathlib.Omega.{arith}
+use borrow.Author.Tests.{ne-eqb}
 use Rattle.layout.specs.State.{value, clock, fields, vector, toEntry, ofEntry, toUpdate, ofUpdate, toState, ofState, table, stateOf, bytesOf}
 use Rattle.layout.specs.Ranges.{FitsVector, FitsFields, Fits}
-use Rattle.layout.specs.Theorems.{BytesBack, StateBack, StateFits, BytesLong}
+use Rattle.layout.specs.Theorems.{BytesBack, StateBack, StateFits, BytesLong, RetiredByte}
 use Rattle.layout.proofs.RoundTrip.{Lawful, number-lawful, then-lawful, row-lawful, via-lawful}
 
 vector-lawful : Lawful vector FitsVector
@@ -37,3 +40,10 @@ state-fits = table-lawful .sane
 pub bytes-long : BytesLong
 unfolding bytesOf
 bytes-long = table-lawful .long
+
+pub retired-byte : RetiredByte
+unfolding bytesOf
+retired-byte S b zero h = refl
+retired-byte S b (suc zero) h = refl
+retired-byte S b (suc (suc zero)) h = omega arith
+retired-byte S b (suc (suc (suc i))) h = rw (ne-eqb (suc (suc (suc i))) 2 (λ e. omega arith))

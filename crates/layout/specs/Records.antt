@@ -64,5 +64,5 @@ block = square .width + appliedAt
 pub record Headed (h : Header) (S : State) : Type 0 where
   pub n : h .n ≡ S .n
   pub k : h .k ≡ S .k
-  pub byte2 : h .byte2 ≡ S .byte2
+  pub retired : h .retired ≡ S .retired
   pub byte3 : h .byte3 ≡ S .byte3

@@ -25,7 +25,7 @@ pub record Update : Type 0 where
 pub record State : Type 0 where
   pub n : ℕ
   pub k : ℕ
-  pub byte2 : ℕ
+  pub retired : ℕ
   pub byte3 : ℕ
   pub applied : ℕ → Vector
   pub depends : ℕ → Vector
@@ -89,7 +89,7 @@ toState p =
     record {
       n = p .0;
       k = p .1 .0;
-      byte2 = p .1 .1 .0;
+      retired = p .1 .1 .0;
       byte3 = p .1 .1 .1 .0;
       applied = p .1 .1 .1 .1 .0;
       depends = p .1 .1 .1 .1 .1 .0;
@@ -98,7 +98,7 @@ toState p =
     }
 
 abbrev pub ofState : State → Parts
-ofState S = (S .n, (S .k, (S .byte2, (S .byte3, (S .applied, (S .depends, (S .store, S .updates)))))))
+ofState S = (S .n, (S .k, (S .retired, (S .byte3, (S .applied, (S .depends, (S .store, S .updates)))))))
 
 -- for each of 8 sites, 64 entries; for each of 8 origins, 16 places
 abbrev pub table : Codec State
@@ -138,7 +138,7 @@ allZero =
     record {
       n = 0;
       k = 0;
-      byte2 = 0;
+      retired = 0;
       byte3 = 0;
       applied = λ s. zeros;
       depends = λ s. zeros;
@@ -150,20 +150,24 @@ allZero =
 
 abbrev pub withCounts : State → (n k : ℕ) → State
 withCounts S n k =
-    record { n = n; k = k; byte2 = S .byte2; byte3 = S .byte3; applied = S .applied; depends = S .depends; store = S .store; updates = S .updates }
+    record { n = n; k = k; retired = S .retired; byte3 = S .byte3; applied = S .applied; depends = S .depends; store = S .store; updates = S .updates }
+
+abbrev pub withRetired : State → (retired : ℕ) → State
+withRetired S b =
+    record { n = S .n; k = S .k; retired = b; byte3 = S .byte3; applied = S .applied; depends = S .depends; store = S .store; updates = S .updates }
 
 abbrev pub withApplied : State → (ℕ → Vector) → State
 withApplied S a =
-    record { n = S .n; k = S .k; byte2 = S .byte2; byte3 = S .byte3; applied = a; depends = S .depends; store = S .store; updates = S .updates }
+    record { n = S .n; k = S .k; retired = S .retired; byte3 = S .byte3; applied = a; depends = S .depends; store = S .store; updates = S .updates }
 
 abbrev pub withDepends : State → (ℕ → Vector) → State
 withDepends S d =
-    record { n = S .n; k = S .k; byte2 = S .byte2; byte3 = S .byte3; applied = S .applied; depends = d; store = S .store; updates = S .updates }
+    record { n = S .n; k = S .k; retired = S .retired; byte3 = S .byte3; applied = S .applied; depends = d; store = S .store; updates = S .updates }
 
 abbrev pub withStore : State → (ℕ → ℕ → Entry) → State
 withStore S e =
-    record { n = S .n; k = S .k; byte2 = S .byte2; byte3 = S .byte3; applied = S .applied; depends = S .depends; store = e; updates = S .updates }
+    record { n = S .n; k = S .k; retired = S .retired; byte3 = S .byte3; applied = S .applied; depends = S .depends; store = e; updates = S .updates }
 
 abbrev pub withUpdates : State → (ℕ → ℕ → Update) → State
 withUpdates S u =
-    record { n = S .n; k = S .k; byte2 = S .byte2; byte3 = S .byte3; applied = S .applied; depends = S .depends; store = S .store; updates = u }
+    record { n = S .n; k = S .k; retired = S .retired; byte3 = S .byte3; applied = S .applied; depends = S .depends; store = S .store; updates = u }

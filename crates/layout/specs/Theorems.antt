@@ -1,9 +1,11 @@
 -- What is proved of the layout (crates/layout/proofs/TableTrips). Assumes nothing.
 use mathlib.Core.Path.{_≡_}
 use mathlib.Core.List.{List}
-use Prim.Native.Nat.{ℕ}
-use lib.ListN.{length}
-use Rattle.layout.specs.State.{State, table, stateOf, bytesOf}
+use Prim.Native.Nat.{ℕ, _<_}
+use lib.Dec.{eqb}
+use lib.ListN.{length, getD}
+use Rattle.clock.specs.Map.{if_then_else_}
+use Rattle.layout.specs.State.{State, table, withRetired, stateOf, bytesOf}
 use Rattle.layout.specs.Ranges.{Bytes, Fits}
 
 -- the table's bytes, read as a state and laid out again, are the same bytes
@@ -19,3 +21,7 @@ StateFits = (t : List ℕ) → length t ≡ table .width → Bytes t → Fits (s
 
 abbrev pub BytesLong : Type 0
 BytesLong = (S : State) → Fits S → length (bytesOf S) ≡ table .width
+
+-- "Byte 2 holds the retired sites": other retired sites are another byte 2, and no other byte
+abbrev pub RetiredByte : Type 0
+RetiredByte = (S : State) (b i : ℕ) → b < 256 → getD (bytesOf (withRetired S b)) i 0 ≡ (if eqb i 2 then b else getD (bytesOf S) i 0)

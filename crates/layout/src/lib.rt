@@ -5,7 +5,7 @@ ghost use Prim.Native.Nat.{_+_, _*_, _≤_, _<_};
 ghost use lib.ListN.{length};
 ghost use Rattle.clock.specs.Map.{_⟨_≔_⟩, _⟨_⟩⟨_≔_⟩};
 ghost use Rattle.clock.specs.Clock.{columns};
-ghost use Rattle.layout.specs.State.{byte, value, clock, lastClock, vector, square, fields, stateOf, allZero, withCounts, withApplied, withDepends, withStore, withUpdates, table};
+ghost use Rattle.layout.specs.State.{byte, value, clock, lastClock, vector, square, fields, stateOf, allZero, withCounts, withRetired, withApplied, withDepends, withStore, withUpdates, table};
 ghost use Rattle.layout.specs.Ranges.{Zeros};
 ghost use Rattle.layout.specs.Records.{pair, quad, word, appliedPlace, dependsPlace, entryPlace, updatePlace, block, Headed, cells2, rows, fieldsAt, fieldsOf, entryOf, updateOf};
 use clock::Clock;
@@ -22,7 +22,7 @@ pub struct Record {
 pub struct Header {
     pub n: u8,
     pub k: u8,
-    pub byte2: u8,
+    pub retired: u8,
     pub byte3: u8,
 }
 
@@ -77,7 +77,7 @@ impl Table {
 
     pub const KEY_COUNT: usize = 1;
 
-    pub const BYTE_2: usize = 2;
+    pub const RETIRED: usize = 2;
 
     pub const BYTE_3: usize = 3;
 
@@ -264,7 +264,7 @@ pub fn read_header(t: &[u8]) -> Header
     Header {
         n: t[Table::SITE_COUNT],
         k: t[Table::KEY_COUNT],
-        byte2: t[Table::BYTE_2],
+        retired: t[Table::RETIRED],
         byte3: t[Table::BYTE_3],
     }
 }
@@ -274,7 +274,14 @@ pub fn set_counts(t: &mut [u8], n: u8, k: u8)
     ensures { λ _. ⌜ stateOf (now (t .exit)) ≡ withCounts (stateOf (now (t .entry))) n k ⌝ }
 {
     write_byte(&mut t[Table::SITE_COUNT..Table::KEY_COUNT], n);
-    write_byte(&mut t[Table::KEY_COUNT..Table::BYTE_2], k);
+    write_byte(&mut t[Table::KEY_COUNT..Table::RETIRED], k);
+}
+
+pub fn set_retired(t: &mut [u8], retired: u8)
+    requires { ⌜ length (now t) ≡ table .width ⌝ }
+    ensures { λ _. ⌜ stateOf (now (t .exit)) ≡ withRetired (stateOf (now (t .entry))) retired ⌝ }
+{
+    write_byte(&mut t[Table::RETIRED..Table::BYTE_3], retired);
 }
 
 fn clear_block(s: &mut [u8])

@@ -1,9 +1,9 @@
 // An answer as document 01's five numbers, for whoever writes them down.
 ghost use mathlib.Core.Path.{_≡_};
 ghost use Rattle.rules.specs.Steps.{refused};
-ghost use Rattle.table.specs.Answers.{numbersOf};
+ghost use Rattle.answers.specs.Answers.{numbersOf};
 ghost use Rattle.numbers.specs.Five.{fiveOf};
-use table::Answer;
+use answers::Answer;
 
 pub struct Five {
     pub code: u8,
@@ -62,6 +62,6 @@ pub fn numbers_of(a: Answer) -> Five
         },
         Answer::Drained { deliveries, tries } => counted(0, deliveries, tries),
         Answer::Stopped { deliveries, tries } => counted(11, deliveries, tries),
-        Answer::Refused(_) => refused(table::code(a)),
+        Answer::Refused(_) => refused(answers::code(a)),
     }
 }

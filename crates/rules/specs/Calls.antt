@@ -8,8 +8,8 @@ use Rattle.clock.specs.Map.{if_then_else_}
 use Rattle.layout.specs.State.{State, table, stateOf, bytesOf}
 use Rattle.rules.specs.Touch.{coldList}
 use Rattle.rules.specs.Engine.{Engine, ours}
-use Rattle.rules.specs.Steps.{Numbers, Outcome, refused, opened, put, get, look, deliver, touch, cold}
-use Rattle.rules.specs.Refusals.{Refusals, first, open-refusals, put-refusals, get-refusals, adopt-refusals, deliver-refusals, site-refusals, touch-refusals, cold-words, touch-words, undelivered, unless}
+use Rattle.rules.specs.Steps.{Numbers, Outcome, refused, opened, put, get, look, deliver, touch, cold, retire}
+use Rattle.rules.specs.Refusals.{Refusals, first, open-refusals, put-refusals, get-refusals, adopt-refusals, deliver-refusals, site-refusals, touch-refusals, retire-refusals, cold-words, touch-words, undelivered, unless}
 use Rattle.rules.specs.Drain.{drain}
 
 pub data Call : Type 0 where
@@ -24,6 +24,7 @@ pub data Call : Type 0 where
   Look : (site key : ℕ) → Call
   -- origin and clock: of the entry, as the caller knows it
   Adopt : (site key origin clock : ℕ) → Call
+  Retire : (site : ℕ) → Call
 
 -- what is asked "first of all", of the call's own numbers
 abbrev pub words : Call → Refusals
@@ -36,6 +37,7 @@ words (Cold s now T m) = cold-words now T m
 words (Touch s x now u r) = touch-words now u r
 words (Look s x) = []
 words (Adopt s x o c) = []
+words (Retire s) = []
 
 -- what is asked of the table
 abbrev pub inside : State → Call → Refusals
@@ -48,6 +50,7 @@ inside S (Cold s now T m) = site-refusals S s
 inside S (Touch s x now u r) = touch-refusals S s x u
 inside S (Look s x) = get-refusals S s x
 inside S (Adopt s x o c) = adopt-refusals S s x o c
+inside S (Retire s) = retire-refusals S s
 
 unfoldable pub refusals : State → Call → Refusals
 refusals S c = words c ++ inside S c
@@ -63,6 +66,7 @@ beside S (Cold s now T m) = refused
 beside S (Touch s x now u r) = refused
 beside S (Look s x) = refused
 beside S (Adopt s x o c) = refused
+beside S (Retire s) = refused
 
 -- the step where no condition holds
 unfoldable pub step : Engine → State → Call → Outcome
@@ -75,6 +79,7 @@ step E S (Cold s now T m) = cold S s now T
 step E S (Touch s x now u r) = touch E S s x now u r
 step E S (Look s x) = look S s x
 step E S (Adopt s x o c) = get E S s x
+step E S (Retire s) = retire S s
 
 unfoldable pub run : Engine → State → Call → Outcome
 run E S c = unless (refusals S c) (beside S c) S (step E S c)

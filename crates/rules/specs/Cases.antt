@@ -1,22 +1,24 @@
 -- The starred cases of document 01 and its schedule, as one table of calls and what they show, with one proof. Assumes nothing.
 use mathlib.Core.Path.{_≡_, refl}
+use mathlib.Core.Bool.{Bool, _&&_}
 use mathlib.Core.List.{List, [], _∷_, _++_}
 use Prim.Native.Nat.{ℕ}
 use lib.Dec.{eqb}
-use Rattle.clock.specs.Map.{if_then_else_, all, any, least, mask, sum}
+use Rattle.clock.specs.Map.{if_then_else_, all, any, least, mask, sum, bit}
 use lib.ListN.{replicate}
-use Rattle.layout.specs.State.{State, bytesOf}
+use Rattle.clock.specs.Vector.{Vector}
+use Rattle.layout.specs.State.{State, Fields, Parts, ofEntry, ofUpdate, ofState}
 use Rattle.rules.specs.Sound.{sound, header, counted, blank, written, smallest, lowest, holds, retains}
 use Rattle.rules.specs.Touch.{kind, chosen, coldList}
 use Rattle.rules.specs.Engine.{Engine, outranks, short, ours}
-use Rattle.rules.specs.Steps.{Numbers, refused, done, opened, put, learn, get, look, deliver, touch, cold}
-use Rattle.rules.specs.Refusals.{open-refusals, full, put-refusals, get-refusals, adopt-refusals, deliver-refusals, site-refusals, touch-refusals}
+use Rattle.rules.specs.Steps.{Numbers, refused, done, opened, put, learn, get, look, deliver, touch, cold, retire}
+use Rattle.rules.specs.Refusals.{open-refusals, full, put-refusals, get-refusals, adopt-refusals, deliver-refusals, site-refusals, touch-refusals, last, retire-refusals}
 use Rattle.rules.specs.Drain.{try, passes, drained, drain}
 use Rattle.rules.specs.Calls.{Call, Put, Get, Deliver, Drain, refusals, beside, step, run}
 
 -- opens every rule, for what is computed
 unfoldable pub rules : ℕ
-unfolding all any least mask sum sound header counted blank written smallest lowest holds retains opened outranks put learn get look deliver open-refusals full put-refusals get-refusals adopt-refusals deliver-refusals site-refusals touch-refusals try passes drained drain kind chosen coldList touch cold refusals beside step run
+unfolding all any least mask sum bit sound header counted blank written smallest lowest holds retains opened outranks put learn get look deliver open-refusals full put-refusals get-refusals adopt-refusals deliver-refusals site-refusals touch-refusals last retire-refusals try passes drained drain kind chosen coldList touch cold retire refusals beside step run
 rules = 0
 
 -- calls on a freshly opened table, their answers, and what is seen of the table before and after the last call
@@ -44,17 +46,24 @@ case i S cs rs = record { number = i; table = S; calls = cs; answers = rs; view 
 abbrev pub case-of : ℕ → State → List Call → List Numbers → (State → State → List ℕ) → List ℕ → Case
 case-of i S cs rs f l = record { number = i; table = S; calls = cs; answers = rs; view = f; seen = l }
 
--- 1 where all bytes are the same
-abbrev same : List ℕ → List ℕ → ℕ
-same [] [] = 1
-same [] (y ∷ ys) = 0
-same (x ∷ xs) [] = 0
-same (x ∷ xs) (y ∷ ys) = if eqb x y then same xs ys else 0
+-- the same numbers in all that stands in bytes, so the same bytes
+abbrev same-row : Vector → Vector → Bool
+same-row v w = all 8 (λ j. eqb (v j) (w j))
 
+abbrev same-fields : Fields → Fields → Bool
+same-fields (v, (o, (z, (c, d)))) (v′, (o′, (z′, (c′, d′)))) = eqb v v′ && eqb o o′ && eqb z z′ && eqb c c′ && same-row d d′
+
+abbrev same : Parts → Parts → Bool
+same (n, (k, (r, (b, (a, (d, (e, u))))))) (n′, (k′, (r′, (b′, (a′, (d′, (e′, u′))))))) =
+    eqb n n′ && eqb k k′ && eqb r r′ && eqb b b′
+    && all 8 (λ s. same-row (a s) (a′ s) && same-row (d s) (d′ s))
+    && all 8 (λ s. all 64 (λ x. same-fields (ofEntry (e s x)) (ofEntry (e′ s x))) && all 16 (λ p. same-fields (ofUpdate (u s p)) (ofUpdate (u′ s p))))
+
+-- 1 where no byte has changed
 abbrev pub unchanged : State → State → List ℕ
-unchanged S T = same (bytesOf S) (bytesOf T) ∷ []
+unchanged S T = (if same (ofState S) (ofState T) then 1 else 0) ∷ []
 
-abbrev fives : List Numbers
+abbrev pub fives : List Numbers
 fives =
     done 0 0 1 5 ∷ done 0 0 2 5 ∷ done 0 0 3 5 ∷ done 0 0 4 5 ∷ done 0 0 5 5 ∷ done 0 0 6 5 ∷ done 0 0 7 5 ∷ done 0 0 8 5
     ∷ done 0 0 9 5 ∷ done 0 0 10 5 ∷ done 0 0 11 5 ∷ done 0 0 12 5 ∷ done 0 0 13 5 ∷ done 0 0 14 5 ∷ done 0 0 15 5 ∷ done 0 0 16 5 ∷ []
@@ -102,10 +111,10 @@ Computed E (c ∷ cs) = (computed E c ≡ expected c) × Computed E cs
 
 -- "In case 13 both sites then hold 6"
 pub starred : Computed ours (cases (6 ∷ 6 ∷ []))
-unfolding rules bytesOf cases
+unfolding rules cases
 starred = (refl, (refl, (refl, (refl, (refl, (refl, (refl, (refl, (refl, (refl, (refl, (refl, (refl, (refl, tt))))))))))))))
 
 -- figure 15 answers the same, and "two sites disagree for good"
 pub starred-short : Computed short (cases (6 ∷ 5 ∷ []))
-unfolding rules bytesOf cases
+unfolding rules cases
 starred-short = (refl, (refl, (refl, (refl, (refl, (refl, (refl, (refl, (refl, (refl, (refl, (refl, (refl, (refl, tt))))))))))))))

@@ -1,3 +1,4 @@
+pub mod Live
 pub mod Sound
 pub mod Touch
 pub mod Engine
@@ -12,3 +13,4 @@ pub mod TouchCases
 pub mod LookCases
 pub mod ShortCases
 pub mod RankCases
+pub mod RetireCases

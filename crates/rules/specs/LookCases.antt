@@ -1,7 +1,6 @@
 -- Look and adopt, at their edges, computed. Assumes nothing.
 use mathlib.Core.Path.{refl}
 use mathlib.Core.List.{List, [], _∷_, _++_}
-use Rattle.layout.specs.State.{bytesOf}
 use Rattle.rules.specs.Engine.{ours}
 use Rattle.rules.specs.Steps.{Numbers, refused, done, opened}
 use Rattle.rules.specs.Calls.{Call, Put, Get, Deliver, Look, Adopt}
@@ -37,5 +36,5 @@ looks =
     ∷ []
 
 pub looked-so : Computed ours looks
-unfolding rules bytesOf looks
+unfolding rules looks
 looked-so = (refl, (refl, (refl, (refl, (refl, (refl, (refl, (refl, tt))))))))

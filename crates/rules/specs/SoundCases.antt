@@ -5,7 +5,7 @@ use mathlib.Core.List.{List, [], _∷_, map}
 use Prim.Native.Nat.{ℕ, suc, _+_, _-_, _%_}
 use Rattle.clock.specs.Map.{_⟨_≔_⟩, _⟨_⟩⟨_≔_⟩}
 use Rattle.clock.specs.Vector.{Vector, zeros}
-use Rattle.layout.specs.State.{State, Update, withApplied, withStore, withUpdates}
+use Rattle.layout.specs.State.{State, Update, withRetired, withApplied, withStore, withUpdates}
 use Rattle.rules.specs.Engine.{ours}
 use Rattle.rules.specs.Steps.{opened}
 use Rattle.rules.specs.Calls.{Get, run}
@@ -46,26 +46,29 @@ abbrev keeps : (o p clock key : ℕ) → State
 keeps o p c x = withUpdates base (base .updates ⟨ o ⟩⟨ p ≔ some c x ⟩)
 
 -- a header before a table in which no clock is retained
-abbrev header : (n k byte2 byte3 : ℕ) → State
+abbrev header : (n k retired byte3 : ℕ) → State
 header n k b₂ b₃ =
     let S = lagging 18 in
-    record { n = n; k = k; byte2 = b₂; byte3 = b₃; applied = S .applied; depends = S .depends; store = S .store; updates = S .updates }
+    record { n = n; k = k; retired = b₂; byte3 = b₃; applied = S .applied; depends = S .depends; store = S .store; updates = S .updates }
 
 pub data Fact : Type 0 where
-  sites keys byte-2 byte-3 most room blank origin clock applied held key : Fact
+  sites keys retired byte-3 most room blank origin clock applied held key : Fact
 
 -- the fact is broken where the code is 2
 unfoldable pub tables : Fact → List (State × ℕ)
 -- n and k are in range
 tables sites = (header 0 2 0 0, 2) ∷ (header 1 2 0 0, 0) ∷ (header 8 2 0 0, 0) ∷ (header 9 2 0 0, 2) ∷ []
 tables keys = (header 3 0 0 0, 2) ∷ (header 3 2 0 0, 0) ∷ (header 3 64 0 0, 0) ∷ (header 3 65 0 0, 2) ∷ []
--- bytes 2 and 3 are zero
-tables byte-2 = (header 3 2 0 0, 0) ∷ (header 3 2 1 0, 2) ∷ []
+-- retired sites are all below n, and not all n; a retired site's get answers 16
+tables retired =
+    (header 3 2 0 0, 0) ∷ (header 3 2 2 0, 0) ∷ (header 3 2 6 0, 0) ∷ (header 3 2 1 0, 16) ∷ (header 3 2 7 0, 2) ∷ (header 3 2 8 0, 2) ∷ (header 3 2 10 0, 2)
+    ∷ (header 8 2 254 0, 0) ∷ (header 8 2 255 0, 2) ∷ []
+-- byte 3 is zero
 tables byte-3 = (header 3 2 0 0, 0) ∷ (header 3 2 0 1, 2) ∷ []
 -- applied[s][o] is at most applied[o][o], where s and o are below n
-tables most = (lagging 18, 0) ∷ (lagging 19, 2) ∷ (counts 2 1 19, 2) ∷ (counts 3 1 19, 0) ∷ (counts 2 3 19, 0) ∷ []
--- and less than it by at most 16; at 17 clocks 2 and 18 would share a place
-tables room = (lagging 2, 0) ∷ (lagging 1, 2) ∷ (counts 3 1 0, 0) ∷ (counts 2 3 0, 0) ∷ []
+tables most = (lagging 18, 0) ∷ (lagging 19, 2) ∷ (withRetired (lagging 19) 2, 2) ∷ (counts 2 1 19, 2) ∷ (counts 3 1 19, 0) ∷ (counts 2 3 19, 0) ∷ []
+-- and of a live site less than it by at most 16; at 17 clocks 2 and 18 would share a place
+tables room = (lagging 2, 0) ∷ (lagging 1, 2) ∷ (withRetired (lagging 1) 2, 0) ∷ (withRetired (lagging 1) 4, 2) ∷ (counts 3 1 0, 0) ∷ (counts 2 3 0, 0) ∷ []
 -- the entry is 24 zero bytes, where its site is below n and its key below k
 tables blank =
     (stores 2 1 0 0 0 0 zeros, 0)
@@ -73,6 +76,7 @@ tables blank =
     ∷ (stores 2 1 0 1 0 0 zeros, 2)
     ∷ (stores 2 1 0 0 1 0 zeros, 2)
     ∷ (stores 2 1 0 0 0 19 zeros, 2)
+    ∷ (withRetired (stores 2 1 1 0 0 0 zeros) 4, 2)
     ∷ (stores 3 1 1 0 0 0 zeros, 0)
     ∷ (stores 2 2 1 0 0 0 zeros, 0)
     ∷ (column 0, 2) ∷ (column 1, 2) ∷ (column 2, 2) ∷ (column 3, 2) ∷ (column 4, 2) ∷ (column 5, 2) ∷ (column 6, 2) ∷ (column 7, 2) ∷ (column 8, 0)
@@ -83,8 +87,8 @@ tables origin = (writes 1 1 2 18, 0) ∷ (writes 1 1 3 18, 2) ∷ []
 tables clock = (writes 1 1 0 0, 2) ∷ (writes 1 1 0 1, 0) ∷ []
 -- to applied[s][origin]
 tables applied = (writes 1 1 0 17, 0) ∷ (writes 1 1 0 18, 2) ∷ (writes 1 1 1 18, 0) ∷ (writes 2 1 0 18, 0) ∷ []
--- the place of each retained clock holds it, other places anything
-tables held = (keeps 0 1 18 1, 0) ∷ (keeps 0 1 2 1, 2) ∷ (keeps 0 1 19 1, 2) ∷ (keeps 0 0 99 1, 0) ∷ (keeps 0 2 99 1, 0) ∷ (keeps 2 1 99 1, 0) ∷ []
+-- the place of each retained clock, which some live site lacks, holds it; other places anything
+tables held = (keeps 0 1 18 1, 0) ∷ (keeps 0 1 2 1, 2) ∷ (withRetired (keeps 0 1 2 1) 2, 0) ∷ (withRetired (keeps 0 1 2 1) 4, 2) ∷ (withRetired (keeps 0 1 2 1) 1, 2) ∷ (keeps 0 1 19 1, 2) ∷ (keeps 0 0 99 1, 0) ∷ (keeps 0 2 99 1, 0) ∷ (keeps 2 1 99 1, 0) ∷ []
 -- and a key below k
 tables key = (keeps 0 1 18 1, 0) ∷ (keeps 0 1 18 2, 2) ∷ (keeps 0 0 17 99, 0) ∷ []
 
@@ -98,7 +102,7 @@ pub fact-by-fact : (f : Fact) → map answered (tables f) ≡ map expected (tabl
 unfolding rules tables
 fact-by-fact sites = refl
 fact-by-fact keys = refl
-fact-by-fact byte-2 = refl
+fact-by-fact retired = refl
 fact-by-fact byte-3 = refl
 fact-by-fact most = refl
 fact-by-fact room = refl

@@ -1,9 +1,10 @@
--- What an accepted open, put, get, look, delivery, touch and cold list do to the table of an engine, and what they answer. Assumes nothing.
+-- What an accepted open, put, get, look, delivery, touch, cold list and retirement do to the table of an engine, and what they answer. Assumes nothing.
 use Prim.Native.Nat.{ℕ, suc}
 use lib.Dec.{eqb}
 use lib.ListN.{length}
 use Rattle.clock.specs.Map.{if_then_else_, _⟨_≔_⟩, _⟨_⟩⟨_≔_⟩}
 use Rattle.layout.specs.State.{State, Update, allZero, withCounts, withApplied, withDepends, withStore, withUpdates}
+use Rattle.rules.specs.Live.{retiring}
 use Rattle.rules.specs.Sound.{place}
 use Rattle.rules.specs.Engine.{Engine}
 use Rattle.rules.specs.Touch as kinds
@@ -86,3 +87,7 @@ unfoldable pub cold : State → (s now threshold : ℕ) → Outcome
 cold S s now T =
     let count : kinds.Kind → ℕ = λ j. length (keysOf j S s now T) in
     record { answer = done (count kinds.cold) (count kinds.ahead) (count kinds.malformed) 0; after = S }
+
+-- "Retirement answers zeros", sets the bit and changes nothing else
+unfoldable pub retire : State → (s : ℕ) → Outcome
+retire S s = record { answer = refused 0; after = retiring S s }

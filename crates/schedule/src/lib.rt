@@ -8,16 +8,16 @@ ghost use Rattle.layout.specs.State.{stateOf, table};
 ghost use Rattle.rules.specs.Engine.{ours};
 ghost use Rattle.rules.specs.Steps.{refused};
 ghost use Rattle.rules.specs.Calls.{serve};
-ghost use Rattle.table.specs.Answers.{numbersOf, served};
+ghost use Rattle.answers.specs.Answers.{numbersOf, served};
 ghost use Rattle.schedule.specs.Step.{stepOf, zero, unused-zero, callOf, Promise};
 ghost use Rattle.schedule.specs.Text.{decimal, word, line};
 ghost use Rattle.schedule.specs.Listing.{last-line, listed, listing};
 ghost use Rattle.schedule.specs.Written.{Written, Counts, Blank, answered, Stepped};
 ghost use Rattle.numbers.specs.Five.{fiveOf};
+use answers::Answer;
+use answers::Engine;
 use layout::Table;
 use numbers::Five;
-use table::Answer;
-use table::Engine;
 
 // The most that a run takes and prints: a header of 2 bytes and 10,922 steps; a line for open and for
 // each step, and the last line. A line is six numbers of at most ten digits, each with a byte behind it.
@@ -108,7 +108,7 @@ fn call(t: &mut [u8], p: Step) -> Answer
     match operation {
         0 => table::put(t, site, p.key as usize, p.value, Engine::Ranked),
         1 => table::get(t, site, p.key as usize, Engine::Ranked),
-        2 => table::deliver(t, site, p.origin as usize, Engine::Ranked),
+        2 => deliver::deliver(t, site, p.origin as usize, Engine::Ranked),
         _ => drain::drain(t, site, Schedule::BUDGET, Engine::Ranked),
     }
 }

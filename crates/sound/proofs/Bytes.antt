@@ -3,7 +3,7 @@ use mathlib.Core.Path.{_≡_, refl, sym, ap, _∙_}
 use mathlib.Core.Bool.{Bool, true, false, _&&_, and-false, and-true, or-false}
 use mathlib.Core.List.{List}
 use mathlib.Core.Logic.{⊎-elim, _≢_, _↔_}
-use Prim.Native.Nat.{ℕ, suc, _+_, _-_, _%_, _≤_, _<_}
+use Prim.Native.Nat.{ℕ, suc, _+_, _-_, _%_, _^_, _≤_, _<_}
 use native.Mathlib.Numerals.{add-one}
 use native.Mathlib.Omega.{arith}
 use lib.ListN.{length}
@@ -12,7 +12,7 @@ use borrow.Author.Tests.{le-leb, lt-leb}
 use Rattle.clock.specs.Map.{all}
 use Rattle.clock.specs.Vector.{Vector}
 use Rattle.clock.proofs.Maps.{true-or-false}
-use Rattle.clock.proofs.Says.{says-itself, says-same, says-eq, says-and}
+use Rattle.clock.proofs.Says.{says-itself, says-same, says-eq, says-lt, says-and}
 use Rattle.layout.specs.State.{State, Entry, fields, toEntry, toUpdate, stateOf}
 use Rattle.layout.specs.Ranges.{Bytes, Zeros}
 use Rattle.layout.specs.Records.{fieldsAt, entryPlace, updatePlace}
@@ -20,7 +20,8 @@ use Rattle.layout.proofs.Zeros.{zeros-are, zeros-part, zeros-long, zeros-below,
 use Rattle.layout.proofs.Splice.{part, length-part}
 use Rattle.layout.proofs.Places.{clock-read, entry-read, update-read}
 use Rattle.rules.specs.Sound.{Blank, blank, place, sound, header, counted, written, lowest, holds, retains}
-use Rattle.laws.proofs.Tested.{range-says, blank-says}
+use Rattle.laws.proofs.Tested.{range-says, header-says, blank-says}
+use Rattle.laws.proofs.Bits.{clear-below, clear-found}
 use Rattle.sound.specs.Checks.{rangeIn, headerIn, writtenIn, appliedIn, noneIn, heldIn, bodyIn}
 use Rattle.sound.specs.declared.Stray.{Stray}
 use Rattle.sound.proofs.Origins.{bySite, by-origin}
@@ -96,10 +97,15 @@ held-at t k o low i ho e =
     (λ j. heldIn k (c j) (update-read t o ((low + i) % 16) ho (omega arith) e j)) ∙ (λ j. heldIn k (low + suc i) (stateOf t .updates o (p j % 16)))
 
 -- the whole test, from the header that code has read
-module _ (S : State) (n k y z : ℕ) (en : n ≡ S .n) (ek : k ≡ S .k) (ey : y ≡ S .byte2) (ez : z ≡ S .byte3) where
+module _ (S : State) (n k y z : ℕ) (en : n ≡ S .n) (ek : k ≡ S .k) (ey : y ≡ S .retired) (ez : z ≡ S .byte3) where
+  -- one number tells that some bit below n is clear and none above is set
   header-is : headerIn n k y z ≡ header S
-  unfolding header
-  header-is i = headerIn (en i) (ek i) (ey i) (ez i)
+  header-is =
+      (λ i. headerIn (en i) (ek i) (ey i) (ez i))
+      ∙ says-same (says-and (says-and (range-says (S .n) (S .k)) (says-lt (suc (S .retired)) (2 ^ S .n))) (says-eq (S .byte3) 0)) (header-says S) (
+        (λ ((r, b), e). let (s, h, c) = clear-found (S .n) (S .retired) b in (((r, omega arith), (s, (h, c))), e)),
+        λ (((r, b), (s, (h, c))), e). ((r, clear-below (S .n) s (S .retired) b h c), e),
+      )
 
   pub unsound-header : headerIn n k y z ≡ false → false ≡ sound S
   unfolding sound
@@ -113,4 +119,4 @@ pub range : (n k : ℕ) → rangeIn n k ≡ true → (n ≤ 8) × (k ≤ 64)
 range n k h = let r = range-says n k .0 h in (r .0 .0 .1, r .1)
 
 pub header-range : (n k y z : ℕ) → headerIn n k y z ≡ true → (n ≤ 8) × (k ≤ 64)
-header-range n k y z h = range n k (says-and (says-and (says-itself (rangeIn n k)) (says-eq y 0)) (says-eq z 0) .0 h .0 .0)
+header-range n k y z h = range n k (says-and (says-and (says-itself (rangeIn n k)) (says-itself (ltb (suc y) (2 ^ n)))) (says-eq z 0) .0 h .0 .0)

@@ -1,11 +1,12 @@
 -- The parts of the soundness test, over numbers that the code has at hand. None need be believed: the check promises the
 -- rules' own `sound`, and these are only what its parts promise each other. Assumes nothing.
 use mathlib.Core.Bool.{Bool, _&&_, _||_}
-use Prim.Native.Nat.{ℕ, suc, _+_, _-_}
+use Prim.Native.Nat.{ℕ, suc, _+_, _-_, _^_}
 use lib.Dec.{eqb, ltb, leb}
-use Rattle.clock.specs.Map.{all}
+use Rattle.clock.specs.Map.{if_then_else_, all}
 use Rattle.clock.specs.Vector.{Vector}
 use Rattle.layout.specs.State.{State, Entry, Update}
+use Rattle.rules.specs.Live.{gone}
 use Rattle.rules.specs.Sound.{blank, smallest, place}
 use Rattle.sound.specs.declared.Stray.{Stray}
 
@@ -13,9 +14,9 @@ use Rattle.sound.specs.declared.Stray.{Stray}
 abbrev pub rangeIn : (n k : ℕ) → Bool
 rangeIn n k = leb 1 n && leb n 8 && leb 1 k && leb k 64
 
--- and bytes 2 and 3 are zero
-abbrev pub headerIn : (n k byte2 byte3 : ℕ) → Bool
-headerIn n k y z = rangeIn n k && eqb y 0 && eqb z 0
+-- retired sites are all below n and not all n, which one number tells, and byte 3 is zero
+abbrev pub headerIn : (n k retired byte3 : ℕ) → Bool
+headerIn n k y z = rangeIn n k && ltb (suc y) (2 ^ n) && eqb z 0
 
 -- its origin is below n and its clock is from 1 to applied[s][origin], with row the applied row of s
 abbrev pub putIn : (n : ℕ) → Vector → Entry → Bool
@@ -37,9 +38,13 @@ noneIn z = eqb (z .head) 0 && eqb (z .left) 0 && eqb (z .right) 0
 abbrev pub entriesIn : State → (n k : ℕ) → Bool
 entriesIn S n k = all n (λ s. all k (λ x. writtenIn n (S .applied s) (S .store s x)))
 
--- the smallest applied[s][o] over sites s below n
+-- applied[s][o] of a live site; a retired one counts as the origin itself
+abbrev pub countIn : State → (o s : ℕ) → ℕ
+countIn S o s = if gone S s then S .applied o o else S .applied s o
+
+-- the smallest of these over sites s below n
 abbrev pub lowestIn : State → (n o : ℕ) → ℕ
-lowestIn S n o = smallest n (λ s. S .applied s o) (S .applied o o)
+lowestIn S n o = smallest n (countIn S o) (S .applied o o)
 
 -- the place of c holds clock c and a key below k
 abbrev pub heldIn : (k c : ℕ) → Update → Bool

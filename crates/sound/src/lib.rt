@@ -1,8 +1,10 @@
 // Whether a table is sound: the check may stop at the first fact that fails.
 ghost use mathlib.Core.Path.{_≡_};
 ghost use mathlib.Core.Bool.{true, _&&_};
-ghost use Prim.Native.Nat.{_+_, _≤_, _<_, min};
+ghost use Prim.Native.Nat.{suc, _+_, _^_, _≤_, _<_, min};
+ghost use lib.Dec.{ltb};
 ghost use lib.ListN.{length};
+ghost use Rattle.clock.specs.Map.{if_then_else_, bit};
 ghost use Rattle.layout.specs.State.{stateOf, fields, toEntry, toUpdate, lastClock, table};
 ghost use Rattle.layout.specs.Records.{fieldsAt};
 ghost use Rattle.rules.specs.Sound.{sound, blank};
@@ -26,14 +28,31 @@ pub fn in_range(n: usize, k: usize) -> bool
     k <= Table::KEYS
 }
 
-// n and k are in range and bytes 2 and 3 are zero.
-fn header_sound(h: Header) -> bool
-    ensures { λ r. ⌜ r ≡ headerIn (h .n) (h .k) (h .byte2) (h .byte3) ⌝ }
+// Whether s is among the retired sites.
+pub fn gone(retired: u8, s: usize) -> bool
+    requires { ⌜ s < 8 ⌝ }
+    ensures { λ r. ⌜ r ≡ bit retired s ⌝ }
 {
-    if !in_range(layout::wide_byte(h.n), layout::wide_byte(h.k)) {
+    (layout::wide_byte(retired) >> s) % 2 == 1
+}
+
+// Retired sites are all below n, and not all n.
+pub fn some_live(retired: u8, n: usize) -> bool
+    requires { ⌜ n ≤ 8 ⌝ }
+    ensures { λ r. ⌜ r ≡ ltb (suc retired) (2 ^ n) ⌝ }
+{
+    (layout::wide_byte(retired) + 1) >> n == 0
+}
+
+// n and k are in range, some site below n and none above is live, and byte 3 is zero.
+fn header_sound(h: Header) -> bool
+    ensures { λ r. ⌜ r ≡ headerIn (h .n) (h .k) (h .retired) (h .byte3) ⌝ }
+{
+    let n = layout::wide_byte(h.n);
+    if !in_range(n, layout::wide_byte(h.k)) {
         return false;
     }
-    if h.byte2 != 0 {
+    if !some_live(h.retired, n) {
         return false;
     }
     h.byte3 == 0
@@ -183,9 +202,17 @@ fn lag_sound(t: &[u8], k: usize, o: usize, low: usize, top: usize) -> bool
     retained(t, k, o, low, top)
 }
 
-// No site has applied more of o's puts than o, nor more than 16 fewer; o's updates that some site lacks are held.
-fn origins_sound(t: &[u8], n: usize, k: usize) -> bool
-    requires { ⌜ (length (now t) ≡ table .width) × (n ≤ 8) ⌝ }
+// A retired site counts as the origin itself.
+fn count(retired: u8, s: usize, here: usize, top: usize) -> usize
+    requires { ⌜ s < 8 ⌝ }
+    ensures { λ r. ⌜ r ≡ (if bit retired s then top else here) ⌝ }
+{
+    if gone(retired, s) { top } else { here }
+}
+
+// No site has applied more of o's puts than o, nor a live one more than 16 fewer; o's updates that a live site lacks are held.
+fn origins_sound(t: &[u8], n: usize, k: usize, retired: u8) -> bool
+    requires { ⌜ (length (now t) ≡ table .width) × (n ≤ 8) × (retired ≡ stateOf (now t) .retired) ⌝ }
     ensures { λ r. ⌜ r ≡ originsIn (stateOf (now (t .entry))) n k ⌝ }
 {
     let mut ok = true;
@@ -200,7 +227,7 @@ fn origins_sound(t: &[u8], n: usize, k: usize) -> bool
                 ok = false;
                 break 'scan;
             }
-            low = lesser(low, here);
+            low = lesser(low, count(retired, s, here, top));
             s += 1;
         }
         if !lag_sound(t, k, o, low, top) {
@@ -212,14 +239,14 @@ fn origins_sound(t: &[u8], n: usize, k: usize) -> bool
     ok
 }
 
-fn body_sound(t: &[u8], n: usize, k: usize) -> bool
-    requires { ⌜ (length (now t) ≡ table .width) × (n ≤ 8) × (k ≤ 64) ⌝ }
+fn body_sound(t: &[u8], n: usize, k: usize, retired: u8) -> bool
+    requires { ⌜ (length (now t) ≡ table .width) × (n ≤ 8) × (k ≤ 64) × (retired ≡ stateOf (now t) .retired) ⌝ }
     ensures { λ r. ⌜ r ≡ bodyIn (stateOf (now (t .entry))) n k ⌝ }
 {
     if !entries_sound(t, n, k) {
         return false;
     }
-    origins_sound(t, n, k)
+    origins_sound(t, n, k, retired)
 }
 
 pub fn sound(t: &[u8]) -> bool
@@ -230,5 +257,5 @@ pub fn sound(t: &[u8]) -> bool
     if !header_sound(h) {
         return false;
     }
-    body_sound(t, layout::wide_byte(h.n), layout::wide_byte(h.k))
+    body_sound(t, layout::wide_byte(h.n), layout::wide_byte(h.k), h.retired)
 }

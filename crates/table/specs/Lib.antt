@@ -1,4 +1,2 @@
-pub mod Answers
-pub mod Asked
-pub mod NoSecond
+pub mod Fits
 pub mod Worked

@@ -6,7 +6,7 @@ use lib.ListN.{length, take, drop, replicate}
 use Rattle.layout.specs.State.{State, bytesOf}
 use Rattle.rules.specs.Engine.{ours}
 use Rattle.rules.specs.Steps.{opened}
-use Rattle.rules.specs.Calls.{Call, Put, Get, Deliver, run}
+use Rattle.rules.specs.Calls.{Call, Put, Get, Deliver, Retire, run}
 use Rattle.rules.specs.Cases.{rules}
 
 -- the table that calls leave
@@ -29,7 +29,7 @@ bytes = bytesOf (after (opened 3 7) calls)
 abbrev pub from : (place many : ℕ) → List ℕ
 from p m = take m (drop p bytes)
 
--- "exactly 15,620 bytes"; "site count n", "key count k", "two zero bytes"
+-- "exactly 15,620 bytes"; "site count n", "key count k", the retired sites, a zero byte
 pub long : length bytes ≡ 15620
 unfolding rules bytesOf calls bytes
 long = refl
@@ -37,6 +37,11 @@ long = refl
 pub header : from 0 4 ≡ 3 ∷ 7 ∷ 0 ∷ 0 ∷ []
 unfolding rules bytesOf calls bytes
 header = refl
+
+-- "bit m worth 2 to the power m": with the sites 1 and 2 retired
+pub retired : take 4 (bytesOf (after (opened 3 7) (Retire 1 ∷ Retire 2 ∷ []))) ≡ 3 ∷ 7 ∷ 6 ∷ 0 ∷ []
+unfolding rules bytesOf
+retired = refl
 
 -- "row is the site, column the origin, 2 bytes each": the first two rows of the applied counts, and of the dependencies
 pub applied : from 4 16 ∷ from 20 16 ∷ []

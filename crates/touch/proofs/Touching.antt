@@ -11,11 +11,12 @@ use Rattle.rules.specs.Calls.{Touch, asks}
 use Rattle.laws.proofs.Ready.{TouchReady, touch-ready}
 use Rattle.laws.proofs.Touching.{learn-apart}
 use Rattle.laws.proofs.Serving.{asks-clear}
-use Rattle.table.specs.declared.Engine.{Engine}
-use Rattle.table.specs.Answers.{engineOf}
-use Rattle.table.specs.Asked.{GetFits, PutFits}
-use Rattle.table.proofs.Sending.{learn-taken}
-use Rattle.table.proofs.Codes as codes
+use Rattle.answers.specs.declared.Engine.{Engine}
+use Rattle.answers.specs.Answers.{engineOf}
+use Rattle.rows.specs.Rows.{GetFits}
+use Rattle.table.specs.Fits.{PutFits}
+use Rattle.rows.proofs.Sending.{learn-taken}
+use Rattle.rows.proofs.Fits as fits
 
 module _ (t : List ℕ) (s x hour u r : ℕ) (z : first (asks t (Touch s x hour u r)) ≡ 0) where
   pub size : length t ≡ table .width
@@ -28,7 +29,7 @@ module _ (t : List ℕ) (s x hour u r : ℕ) (z : first (asks t (Touch s x hour 
   small = let P = ready .put in (omega (arith, P .site, P .sound .sites), omega (arith, P .key, P .sound .keys))
 
   pub get-fits : GetFits t s x
-  get-fits = codes.over-fits t s x size (ready .put)
+  get-fits = fits.over-fits t s x size (ready .put)
 
   -- the get leaves the counts, and what it has taken on is taken on
   pub put-fits : (engine : Engine) (t′ : List ℕ) → length t′ ≡ length t → stateOf t′ ≡ learn (engineOf engine) (stateOf t) s x → PutFits (engineOf engine) t′ s x

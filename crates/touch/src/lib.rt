@@ -5,12 +5,12 @@ ghost use Rattle.layout.specs.Records.{entryOf};
 ghost use Rattle.rules.specs.Touch.{hourOf, wellFormed, keepsHour, touchOf, touched};
 ghost use Rattle.rules.specs.Refusals.{first, touch-words};
 ghost use Rattle.rules.specs.Calls.{Touch, asks};
-ghost use Rattle.table.specs.Answers.{codeOf, served, PromiseBy};
+ghost use Rattle.answers.specs.Answers.{codeOf, served, PromiseBy};
 ghost use Rattle.touch.specs.Asked.{recordIn, touchIn};
+use answers::Answer;
+use answers::Engine;
+use answers::Refusal;
 use layout::Record;
-use table::Answer;
-use table::Engine;
-use table::Refusal;
 
 // What the fields of a touch record are worth: hour (16 bits), toucher (3), tier (2), eleven zeros.
 pub struct Field {}
@@ -105,17 +105,17 @@ fn record_refusal(e: Record, toucher: usize) -> Refusal
     Refusal::Nothing
 }
 
-// 1, 2, 4 and 6, then 13, then 7 and 8.
+// 1, 2, 4, 16 and 6, then 13, then 7 and 8.
 fn table_refusal(t: &[u8], s: usize, x: usize, toucher: usize) -> Refusal
     ensures { λ r. ⌜ codeOf r ≡ first (touchIn (now (t .entry)) s x toucher) ⌝ }
 {
-    let why = table::get_refusal(t, s, x);
+    let why = refusals::get_refusal(t, s, x);
     match why {
         Refusal::Nothing => {
             let h = layout::read_header(t);
             let record = record_refusal(layout::entry_at(t, s, x), toucher);
             match record {
-                Refusal::Nothing => table::room_refusal(t, layout::wide_byte(h.n), s),
+                Refusal::Nothing => refusals::room_refusal(t, layout::wide_byte(h.n), s),
                 _ => record,
             }
         }

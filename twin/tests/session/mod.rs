@@ -2,7 +2,7 @@
 #![allow(dead_code)]
 
 use twin::{
-    adopt, cold, deliver, drain, get, long, look, open, put, short, touch, LIST_BYTES, REPLY_BYTES, TABLE_BYTES,
+    adopt, cold, deliver, drain, get, long, look, open, put, retire, short, touch, LIST_BYTES, REPLY_BYTES, TABLE_BYTES,
 };
 
 #[derive(Clone)]
@@ -55,6 +55,10 @@ impl Session {
 
     pub fn drain(&mut self, site: u64, budget: u64) -> Numbers {
         self.call(|table, reply| drain(site, budget, table, reply))
+    }
+
+    pub fn retire(&mut self, site: u64) -> Numbers {
+        self.call(|table, reply| retire(site, table, reply))
     }
 
     pub fn touch(&mut self, site: u64, key: u64, now: u64, toucher: u64, tier: u64) -> Numbers {

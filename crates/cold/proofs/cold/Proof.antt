@@ -1,8 +1,8 @@
 use mathlib.Core.Path.{sym, ap, _∙_}
 use native.Mathlib.Omega.{arith}
 use Rattle.layout.specs.Ranges.{Bytes}
-use Rattle.table.specs.Answers.{codeOf}
-use Rattle.table.proofs.Codes.{refusing}
+use Rattle.answers.specs.Answers.{codeOf}
+use Rattle.answers.proofs.Codes.{refusing}
 use Rattle.cold.proofs.Listing as listing
 use borrow.Author.Needs.{needs}
 use Rattle.cold.proofs.cold.Statement.{statement}

@@ -2,8 +2,8 @@ use mathlib.Core.Path.{sym, ap, _∙_}
 use native.Mathlib.Omega.{arith}
 use Rattle.rules.specs.Refusals.{cold-words}
 use Rattle.rules.specs.Calls.{Drain, asks}
-use Rattle.table.specs.Answers.{codeOf}
-use Rattle.table.proofs.Codes.{first-then, first-stop, refusing}
+use Rattle.answers.specs.Answers.{codeOf}
+use Rattle.answers.proofs.Codes.{first-then, first-stop, refusing}
 use borrow.Author.Needs.{needs}
 use Rattle.cold.proofs.cold_refusal.Statement.{statement}
 use Rattle.cold.proofs.cold_refusal.Tie as tie

@@ -3,9 +3,9 @@ use native.Mathlib.Omega.{arith}
 use Rattle.layout.specs.Ranges.{Bytes}
 use Rattle.rules.specs.Refusals.{site-refusals}
 use Rattle.rules.specs.Calls.{Drain, refusals, step, asks}
-use Rattle.table.specs.Answers.{codeOf, engineOf}
-use Rattle.table.proofs.Codes.{refusing}
-use Rattle.table.proofs.Serves.{serves-refused, serves-step}
+use Rattle.answers.specs.Answers.{codeOf, engineOf}
+use Rattle.answers.proofs.Codes.{refusing}
+use Rattle.answers.proofs.Serves.{serves-refused, serves-step}
 use Rattle.drain.proofs.Draining.{drain-clear}
 use borrow.Author.Needs.{needs}
 use Rattle.drain.proofs.drain.Statement.{statement}

@@ -4,7 +4,7 @@ use native.Mathlib.Omega.{arith}
 use lib.ListN.{length}
 use Rattle.rules.specs.Steps.{Numbers}
 use Rattle.rules.specs.Drain.{Drained, drain}
-use Rattle.table.specs.Answers.{engineOf}
+use Rattle.answers.specs.Answers.{engineOf}
 use Rattle.drain.proofs.Draining.{Draining, drain-starts, drain-ended, drain-stopped, attempts, drain-accepted, drain-refused}
 use borrow.Author.Needs.{needs}
 use Rattle.drain.proofs.passes.Statement.{statement}

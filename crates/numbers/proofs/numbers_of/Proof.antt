@@ -1,7 +1,7 @@
 use mathlib.Core.Path.{sym, ap, _∙_}
 use Rattle.rules.specs.Steps.{refused}
-use Rattle.table.specs.declared.Answer.{Answer}
-use Rattle.table.specs.Answers.{numbersOf}
+use Rattle.answers.specs.declared.Answer.{Answer}
+use Rattle.answers.specs.Answers.{numbersOf}
 use borrow.Author.Needs.{needs}
 use Rattle.numbers.proofs.numbers_of.Statement.{statement}
 use Rattle.numbers.proofs.numbers_of.Tie as tie

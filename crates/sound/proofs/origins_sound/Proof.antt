@@ -5,29 +5,29 @@ use native.Mathlib.Omega.{arith}
 use native.Mathlib.Numerals.{add-one}
 use lib.Dec.{leb}
 use borrow.Author.Tests.{not-true, not-false, le-leb, lt-leb}
-use Rattle.clock.specs.Map.{all}
+use Rattle.clock.specs.Map.{if_then_else_, all, bit}
 use Rattle.clock.proofs.Below.{all-none, all-more, all-done, all-fails}
 use Rattle.layout.specs.State.{stateOf}
 use Rattle.rules.specs.Sound.{smallest}
-use Rattle.sound.specs.Checks.{originIn}
+use Rattle.sound.specs.Checks.{lowestIn, originIn}
 use Rattle.sound.proofs.Origins.{lag-is}
 use borrow.Author.Needs.{needs}
 use Rattle.sound.proofs.origins_sound.Statement.{statement}
 use Rattle.sound.proofs.origins_sound.Tie as tie
 
 abbrev Inv-loop : tie.InvT-loop
-Inv-loop t n k ok₀ o top low₀ s₀ ok low s =
+Inv-loop t n k retired ok₀ o top low₀ s₀ ok low s =
     let a = stateOf t .applied in
-    (s ≤ n) × (ok ≡ true) × (low ≡ smallest s (λ s. a s o) (a o o)) × (low ≤ top) × (all s (λ s. leb (a s o) (a o o)) ≡ true)
+    (s ≤ n) × (ok ≡ true) × (low ≡ lowestIn (stateOf t) s o) × (low ≤ top) × (all s (λ s. leb (a s o) (a o o)) ≡ true)
 
 abbrev μ-loop : tie.MeasureT-loop
-μ-loop t n k ok₀ o top low₀ s₀ ok low s = n - s
+μ-loop t n k retired ok₀ o top low₀ s₀ ok low s = n - s
 
 abbrev Inv-scan : tie.InvT-scan
-Inv-scan t n k ok₀ o₀ ok o = (o ≤ n) × (ok ≡ true) × (all o (originIn (stateOf t) n k) ≡ true)
+Inv-scan t n k retired ok₀ o₀ ok o = (o ≤ n) × (ok ≡ true) × (all o (originIn (stateOf t) n k) ≡ true)
 
 abbrev μ-scan : tie.MeasureT-scan
-μ-scan t n k ok₀ o₀ ok o = n - o
+μ-scan t n k retired ok₀ o₀ ok o = n - o
 
 scan-holds : tie.Need-scan-holds Inv-loop μ-loop Inv-scan μ-scan
 scan-holds c = (search needs, refl, all-none _)
@@ -39,19 +39,22 @@ loop-holds c = (search needs, c .before .before .before .scan .inv .1, c .wide .
 loop-again : tie.Need-loop-again Inv-loop μ-loop Inv-scan μ-scan
 unfolding smallest
 loop-again c =
-    let here = c .before .before in
+    let here = c .before .before .before in
     let sites = here .before .before .before in
     let top = sites .before in
     let scan = top .before .before .before in
     let l = sites .loop in
     let o = scan .scan .o in
-    let f = stateOf (scan .before .before .args .t .now) .applied in
-    let is = here .wide2 .ensures .0 ∙ here .before .applied-at2 .ensures in (
+    let a = scan .before .before in
+    let f = stateOf (a .args .t .now) .applied in
+    let is = here .wide2 .ensures .0 ∙ here .before .applied-at2 .ensures in
+    let own = top .wide .ensures .0 ∙ top .before .applied-at .ensures in
+    let count = c .before .count .ensures ∙ (λ i. if bit (a .pre .2 i) (l .s) then own i else is i) in (
       omega arith,
       l .inv .1,
-      rw add-one (c .lesser .ensures ∙ (λ i. min (l .inv .2 i) (is i))),
+      rw add-one (c .lesser .ensures ∙ (λ i. min (l .inv .2 i) (count i))),
       omega (arith, c .lesser .ensures),
-      all-more _ _ (l .inv .4) (le-leb (f (l .s) o) (f o o) (omega (arith, is, top .wide .ensures .0 ∙ top .before .applied-at .ensures, c .before .if1 .left))),
+      all-more _ _ (l .inv .4) (le-leb (f (l .s) o) (f o o) (omega (arith, is, own, c .before .before .if1 .left))),
     )
 
 scan-again : tie.Need-scan-again Inv-loop μ-loop Inv-scan μ-scan
@@ -110,6 +113,7 @@ origins-sound-spec =
     loop-holds
     (λ c κs. search needs)  -- applied-at-requires-2
     (λ c κs. search needs)  -- wide-requires-2
+    (λ c κs. search needs)  -- count-requires
     (λ c κs. search needs)  -- lesser-requires
     (λ c. search needs)  -- add-s
     (λ c. search needs)  -- loop-less

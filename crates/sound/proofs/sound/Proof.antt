@@ -11,15 +11,15 @@ use Rattle.sound.proofs.sound.Tie as tie
 returns : tie.Need-returns
 returns c =
     let h = c .before .before .read-header .ensures in
-    unsound-header (stateOf (c .before .before .before .before .args .t .now)) _ _ _ _ (h .n) (h .k) (h .byte2) (h .byte3)
+    unsound-header (stateOf (c .before .before .before .before .args .t .now)) _ _ _ _ (h .n) (h .k) (h .retired) (h .byte3)
     (sym (c .before .header-sound .ensures) ∙ not-true _ (c .if1 .taken))
 
 body-sound-requires : tie.Need-body-sound-requires
 body-sound-requires c κs =
     let d = c .before .before in
     let h = d .before .before .read-header .result in
-    let r = header-range (h .n) (h .k) (h .byte2) (h .byte3) (sym (d .before .header-sound .ensures) ∙ not-false _ (d .if1 .left)) in
-    omega (arith, r, c .wide-byte2 .ensures .0, c .before .wide-byte .ensures .0)
+    let r = header-range (h .n) (h .k) (h .retired) (h .byte3) (sym (d .before .header-sound .ensures) ∙ not-false _ (d .if1 .left)) in
+    (omega (arith, d .before .before .before .before .pre), omega (arith, r, c .before .wide-byte .ensures .0), omega (arith, r, c .wide-byte2 .ensures .0), d .before .before .read-header .ensures .retired)
 
 returns-2 : tie.Need-returns-2
 returns-2 c =
@@ -27,7 +27,7 @@ returns-2 c =
     let h = d .before .before .read-header .ensures in
     let S = stateOf (d .before .before .before .before .args .t .now) in
     c .body-sound .ensures ∙ (λ i. bodyIn S (c .before .before .wide-byte .ensures .0 i) (c .before .wide-byte2 .ensures .0 i))
-    ∙ sound-body S _ _ _ _ (h .n) (h .k) (h .byte2) (h .byte3) (sym (d .before .header-sound .ensures) ∙ not-false _ (d .if1 .left))
+    ∙ sound-body S _ _ _ _ (h .n) (h .k) (h .retired) (h .byte3) (sym (d .before .header-sound .ensures) ∙ not-false _ (d .if1 .left))
 
 pub sound-spec : {M : Type 1} → statement M
 sound-spec =

@@ -3,9 +3,11 @@ use native.Mathlib.Omega.{arith}
 use Rattle.layout.specs.Ranges.{Bytes}
 use Rattle.rules.specs.Steps.{done, get}
 use Rattle.rules.specs.Calls.{Get, step}
-use Rattle.table.specs.Answers.{codeOf, engineOf}
-use Rattle.table.proofs.Codes.{refusing, get-clear, get-fits}
-use Rattle.table.proofs.Serves.{serves-refused, serves-step}
+use Rattle.answers.specs.Answers.{codeOf, engineOf}
+use Rattle.answers.proofs.Codes.{refusing}
+use Rattle.refusals.proofs.Clear.{get-clear}
+use Rattle.rows.proofs.Fits.{get-fits}
+use Rattle.answers.proofs.Serves.{serves-refused, serves-step}
 use borrow.Author.Needs.{needs}
 use Rattle.table.proofs.get.Statement.{statement}
 use Rattle.table.proofs.get.Tie as tie

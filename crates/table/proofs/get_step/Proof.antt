@@ -2,8 +2,8 @@ use mathlib.Core.Path.{sym, ap, _∙_}
 use native.Mathlib.Omega.{arith}
 use Rattle.layout.specs.State.{Entry, stateOf}
 use Rattle.layout.specs.Records.{entryOf}
-use Rattle.table.specs.Answers.{engineOf}
-use Rattle.table.proofs.Stores.{learn-none, learn-some}
+use Rattle.answers.specs.Answers.{engineOf}
+use Rattle.rows.proofs.Stores.{learn-none, learn-some}
 use borrow.Author.Needs.{needs}
 use Rattle.table.proofs.get_step.Statement.{statement}
 use Rattle.table.proofs.get_step.Tie as tie

@@ -9,8 +9,8 @@ use Rattle.rules.specs.Engine.{ours}
 use Rattle.rules.specs.Steps.{opened}
 use Rattle.rules.specs.Refusals.{open-refusals}
 use Rattle.rules.specs.Calls.{Open, refusals, step, asks}
-use Rattle.table.specs.declared.Refusal.the-variants.{Size, Counts}
-use Rattle.table.proofs.Serves.{serves-refused, serves-step}
+use Rattle.answers.specs.declared.Refusal.the-variants.{Size, Counts}
+use Rattle.answers.proofs.Serves.{serves-refused, serves-step}
 use borrow.Author.Needs.{needs}
 use Rattle.table.proofs.open.Statement.{statement}
 use Rattle.table.proofs.open.Tie as tie

@@ -4,16 +4,18 @@ use Rattle.layout.specs.State.{State, stateOf}
 use Rattle.layout.specs.Ranges.{Bytes}
 use Rattle.rules.specs.Steps.{Outcome, done, put}
 use Rattle.rules.specs.Calls.{Put, refusals, step, asks}
-use Rattle.table.specs.Answers.{codeOf, engineOf}
-use Rattle.table.proofs.Codes.{refusing, put-clear, over-fits}
-use Rattle.table.proofs.Sending.{sends-as-is, puts-the-same}
-use Rattle.table.proofs.Serves.{serves-refused, serves-step}
+use Rattle.answers.specs.Answers.{codeOf, engineOf}
+use Rattle.answers.proofs.Codes.{refusing}
+use Rattle.refusals.proofs.Clear.{put-clear}
+use Rattle.rows.proofs.Fits.{over-fits}
+use Rattle.rows.proofs.Sending.{sends-as-is, puts-the-same}
+use Rattle.answers.proofs.Serves.{serves-refused, serves-step}
 use borrow.Author.Needs.{needs}
 use Rattle.table.proofs.put.Statement.{statement}
 use Rattle.table.proofs.put.Tie as tie
 
-take-on-requires : tie.Need-take-on-requires
-take-on-requires c κs =
+learn-old-requires : tie.Need-learn-old-requires
+learn-old-requires c κs =
     let asked = c .before .before .before in
     let a = asked .before .before .before .args in
     let p = put-clear (a .t .now) (a .s) (a .x) 0 (sym (asked .put-refusal .ensures) ∙ ap codeOf (c .before .enum-told .given .1)) in
@@ -26,13 +28,13 @@ put-step-requires c κs =
     let a = asked .before .before .before .args in
     let p = put-clear (a .t .now) (a .s) (a .x) 0 (sym (asked .put-refusal .ensures) ∙ ap codeOf (took .before .before .enum-told .given .1)) in
     let f = over-fits (a .t .now) (a .s) (a .x) (p .0) (p .1) .entry in
-    let e = took .take-on .ensures in
+    let e = took .learn-old .ensures in
     record {
-      size = took .take-on .kept .0 ∙ p .0;
+      size = took .learn-old .kept .0 ∙ p .0;
       site = f .site;
       key = f .key;
       clock = λ z. p .1 .clock (sym (ap (λ (S : State). S .applied (a .s) (a .s)) e) ∙ z);
-      taken = sends-as-is (stateOf (a .t .now)) (a .s) (a .x) (a .engine) (stateOf (took .take-on .last .0)) e;
+      taken = sends-as-is (stateOf (a .t .now)) (a .s) (a .x) (a .engine) (stateOf (took .learn-old .last .0)) e;
     }
 
 returns : tie.Need-returns
@@ -43,8 +45,8 @@ returns c =
     let told = took .before .before in
     let asked = told .before .before in
     let a = asked .before .before .before .args in
-    let r = puts-the-same (stateOf (a .t .now)) (a .s) (a .x) (a .engine) (stateOf (took .take-on .last .0)) (took .take-on .ensures) (a .v) in
-    serves-step (engineOf (a .engine)) (a .t .now) (Put (a .s) (a .x) (a .v)) _ (w .last .0) (w .kept .0 ∙ took .take-on .kept .0) (λ i. omega (arith, c .slice-known3 .given i))
+    let r = puts-the-same (stateOf (a .t .now)) (a .s) (a .x) (a .engine) (stateOf (took .learn-old .last .0)) (took .learn-old .ensures) (a .v) in
+    serves-step (engineOf (a .engine)) (a .t .now) (Put (a .s) (a .x) (a .v)) _ (w .last .0) (w .kept .0 ∙ took .learn-old .kept .0) (λ i. omega (arith, c .slice-known3 .given i))
     (sym (asked .put-refusal .ensures) ∙ ap codeOf (told .enum-told .given .1))
     ((λ i. done (a .x) (a .s) (w .ensures .0 i) (a .v)) ∙ ap (λ (o : Outcome). o .answer) r) (w .ensures .1 ∙ ap (λ (o : Outcome). o .after) r)
 
@@ -62,7 +64,7 @@ put-spec =
     (tie.spec
     (λ c κs. search needs)  -- put-refusal-requires
     (λ c. search needs)  -- enum-told
-    take-on-requires
+    learn-old-requires
     put-step-requires
     (λ c. let f = put-step-requires (c .before .before .before) (c .before .before .put-step .lifetimes) in omega (arith, f .key))
     (λ c. let f = put-step-requires (c .before .before .before) (c .before .before .put-step .lifetimes) in omega (arith, f .site))

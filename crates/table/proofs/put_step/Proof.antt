@@ -1,6 +1,6 @@
 use Rattle.layout.specs.State.{stateOf}
-use Rattle.table.specs.Answers.{engineOf}
-use Rattle.table.proofs.Stores.{next-is, put-stores}
+use Rattle.answers.specs.Answers.{engineOf}
+use Rattle.rows.proofs.Stores.{next-is, put-stores}
 use borrow.Author.Needs.{needs}
 use Rattle.table.proofs.put_step.Statement.{statement}
 use Rattle.table.proofs.put_step.Tie as tie

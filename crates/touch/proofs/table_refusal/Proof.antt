@@ -5,9 +5,10 @@ use Rattle.layout.specs.State.{Entry, stateOf}
 use Rattle.rules.specs.Refusals.{first}
 use Rattle.rules.specs.Calls.{Get, asks}
 use Rattle.laws.proofs.Given.{asks-proper}
-use Rattle.table.specs.Answers.{codeOf}
-use Rattle.table.specs.Asked.{roomIn}
-use Rattle.table.proofs.Codes.{first-then, first-stop, refusing, get-clear}
+use Rattle.answers.specs.Answers.{codeOf}
+use Rattle.refusals.specs.Asked.{roomIn}
+use Rattle.answers.proofs.Codes.{first-then, first-stop, refusing}
+use Rattle.refusals.proofs.Clear.{get-clear}
 use Rattle.touch.specs.Asked.{recordIn}
 use borrow.Author.Needs.{needs}
 use Rattle.touch.proofs.table_refusal.Statement.{statement}
@@ -35,10 +36,10 @@ returns c =
     let a = c .before .before .before .before .before .before .before .before .before .before .before .args in
     let S = stateOf (a .t .now) in
     let n = c .before .wide-byte .ensures .0 ∙ c .before .before .before .before .before .before .read-header .ensures .n in
-    let room = roomIn (S .applied) (S .n) (a .s) in
+    let room = roomIn S (S .n) (a .s) in
     let kept = recordIn (S .store (a .s) (a .x)) (a .toucher) in
     c .room-refusal .ensures
-    ∙ (λ i. first (roomIn (S .applied) (n i) (a .s)))
+    ∙ (λ i. first (roomIn S (n i) (a .s)))
     ∙ first-then kept room (omega arith)
     (ap (λ (e : Entry). first (recordIn e (a .toucher))) (sym (c .before .before .before .before .before .entry-at .ensures)) ∙ sym (c .before .before .before .before .record-refusal .ensures) ∙ ap codeOf (c .before .before .enum-told2 .given .1))
     ∙ first-then (asks (a .t .now) (Get (a .s) (a .x))) (kept ++ room) (asks-proper (a .t .now) (Get (a .s) (a .x)) .0)
@@ -48,7 +49,7 @@ returns-2 : tie.Need-returns-2
 returns-2 c =
     let a = c .before .before .before .before .before .before .before .before .args in
     let S = stateOf (a .t .now) in
-    let room = roomIn (S .applied) (S .n) (a .s) in
+    let room = roomIn S (S .n) (a .s) in
     let kept = recordIn (S .store (a .s) (a .x)) (a .toucher) in
     let r = c .before .record-refusal in
     let e : codeOf (r .result) ≡ first kept = r .ensures ∙ ap (λ (e : Entry). first (recordIn e (a .toucher))) (c .before .before .entry-at .ensures) in
@@ -62,7 +63,7 @@ returns-3 c =
     let a = c .before .before .before .args in
     let S = stateOf (a .t .now) in
     r .ensures
-    ∙ first-stop (asks (a .t .now) (Get (a .s) (a .x))) (recordIn (S .store (a .s) (a .x)) (a .toucher) ++ roomIn (S .applied) (S .n) (a .s))
+    ∙ first-stop (asks (a .t .now) (Get (a .s) (a .x))) (recordIn (S .store (a .s) (a .x)) (a .toucher) ++ roomIn S (S .n) (a .s))
     (λ z. refusing (r .result) (c .match .keys2) (r .ensures ∙ z))
 
 pub table-refusal-spec : {M : Type 1} → statement M

@@ -5,9 +5,9 @@ use Rattle.layout.specs.Ranges.{Bytes}
 use Rattle.rules.specs.Touch.{touched}
 use Rattle.rules.specs.Steps.{done, put, touch}
 use Rattle.rules.specs.Calls.{Touch, step}
-use Rattle.table.specs.Answers.{codeOf, engineOf}
-use Rattle.table.proofs.Codes.{refusing}
-use Rattle.table.proofs.Serves.{serves-refused, serves-step}
+use Rattle.answers.specs.Answers.{codeOf, engineOf}
+use Rattle.answers.proofs.Codes.{refusing}
+use Rattle.answers.proofs.Serves.{serves-refused, serves-step}
 use Rattle.touch.proofs.Touching as touching
 use borrow.Author.Needs.{needs}
 use Rattle.touch.proofs.touch.Statement.{statement}

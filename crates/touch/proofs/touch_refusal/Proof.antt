@@ -2,8 +2,8 @@ use mathlib.Core.Path.{sym, ap, _∙_}
 use native.Mathlib.Omega.{arith}
 use Rattle.rules.specs.Refusals.{touch-words, full, get-refusals, touch-refusals}
 use Rattle.rules.specs.Calls.{asks}
-use Rattle.table.specs.Answers.{codeOf}
-use Rattle.table.proofs.Codes.{first-then, first-stop, refusing}
+use Rattle.answers.specs.Answers.{codeOf}
+use Rattle.answers.proofs.Codes.{first-then, first-stop, refusing}
 use Rattle.touch.specs.Asked.{touchIn}
 use borrow.Author.Needs.{needs}
 use Rattle.touch.proofs.touch_refusal.Statement.{statement}
