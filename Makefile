@@ -21,7 +21,8 @@ SECONDS ?= 600
 CFLAGS ?= -O2
 STRICT := -std=c11 -Wall -Wextra -Werror -pedantic
 # Folders too: theirs is the time at which a file in them went.
-SOURCES := crates.txt $(shell find crates)
+SOURCES := crates.txt $(shell find $(wildcard crates/*/src crates/*/specs crates/*/proofs))
+PROGRAM := crates/run_schedule/out/run_schedule
 ARCHIVE := build/$(shell uname -m)/libforkcanyon.a
 # LIBRARY=file: another archive to install
 LIBRARY ?= $(ARCHIVE)
@@ -35,11 +36,11 @@ test:
 $(ARCHIVE): $(SOURCES) tools/archive
 	tools/archive
 
-target/bin/run_schedule: $(SOURCES)
-	rt check run_schedule
+$(PROGRAM): $(SOURCES)
+	cd crates/run_schedule && rt run </dev/null >/dev/null
 	@touch $@
 
-run: target/bin/run_schedule
+run: $(PROGRAM)
 	@tools/sched encode docs/scope.sched | tools/run_schedule
 
 lib: $(LIBRARY)
@@ -68,10 +69,10 @@ closed: lib
 	@$(CC) $(STRICT) $(CFLAGS) -Ibuild examples/closed_branch.c $(LIBRARY) -o build/closed_branch
 	@build/closed_branch
 
-play: target/bin/run_schedule
+play: $(PROGRAM)
 	@tools/sched play "$(FILE)"
 
-draw: target/bin/run_schedule
+draw: $(PROGRAM)
 	@mkdir -p build
 	@tools/spacetime "$(FILE)" >build/$(basename $(notdir $(FILE))).svg
 

@@ -42,7 +42,7 @@ def output(command, data=b"", timeout=60):
     try:
         run = subprocess.run(command, input=data, capture_output=True, timeout=timeout, check=True)
     except FileNotFoundError:
-        raise SystemExit(f"there is no {program} (rt check run_schedule)") from None
+        raise SystemExit(f"there is no {program} (make run)") from None
     except subprocess.CalledProcessError as failed:
         raise SystemExit(failed.stderr.decode().strip() or f"{program} has failed") from None
     return run.stdout.decode()

@@ -34,7 +34,7 @@ def edit_faults(root):
 
 
 def crate_faults(root):
-    listed = re.findall(r"^(\w+):", (root / "crates.txt").read_text(), re.M)
+    listed = re.findall(r"^(\w+)[^:\n]*:", (root / "crates.txt").read_text(), re.M)
     yield from both_ways(listed, [folder.name for folder in root.glob("crates/*/")], "crates.txt")
 
 

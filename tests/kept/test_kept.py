@@ -14,7 +14,7 @@ class Kept(unittest.TestCase):
         self.addCleanup(folder.cleanup)
         self.root = Path(folder.name)
         for name in ["crates", "docs", "tests", "tools", "include", "examples", "bench", "twin"]:
-            shutil.copytree(HERE / name, self.root / name, ignore=shutil.ignore_patterns("target"))
+            shutil.copytree(HERE / name, self.root / name, ignore=shutil.ignore_patterns("target", "out"))
         for name in ["crates.txt", "README.md", "CONTRIBUTING.md"]:
             shutil.copy(HERE / name, self.root / name)
 
@@ -54,7 +54,7 @@ class Kept(unittest.TestCase):
         self.assertEqual(self.found(), ["docs/READING.md: no claim is made of OfHistories.looking"])
 
     def test_a_field_that_went(self):
-        self.edit("docs/READING.md", "`Ordered.put-first`", "`Ordered.handed`")
+        self.edit("docs/READING.md", "`Ordered.put_first`", "`Ordered.handed`")
         self.assertEqual(self.found(), ["docs/READING.md: no claim is made of Ordered.handed"])
 
     def test_a_table_that_went(self):
@@ -65,7 +65,7 @@ class Kept(unittest.TestCase):
         self.edit("docs/DECISIONS.md", "crates/laws/proofs/Keeps.antt", "crates/rules/proofs/Keeps.antt")
         self.assertEqual(self.found(), ["docs/DECISIONS.md: there is no crates/rules/proofs/Keeps.antt"])
         self.edit("docs/DECISIONS.md", "crates/rules/proofs/Keeps.antt", "crates/laws/proofs/Codes.antt")
-        self.assertEqual(self.found(), ["docs/DECISIONS.md: there is no deliver-sound in crates/laws/proofs/Codes.antt"])
+        self.assertEqual(self.found(), ["docs/DECISIONS.md: there is no deliver_sound in crates/laws/proofs/Codes.antt"])
         self.edit("README.md", "(docs/scope.svg)", "(docs/scopes.svg)")
         self.assertIn("README.md: there is no docs/scopes.svg", self.found())
         (self.root / "twin" / "tests" / "looks.rs").unlink()

@@ -1,11 +1,11 @@
 """What is missing of the promises in the source, a line each. A public call is one that a C program makes, or a public
 function that asks nothing of its caller and writes a lent buffer or has a call's name. Its ensures is, to the letter,
 
-    Promise (now (BUFFER .entry)).. (Call NUMBER..) (OUTCOME result (now (BUFFER .exit))..)
+    Promise BUFFER.old.. (Call NUMBER..) (OUTCOME result BUFFER.new..)
 
 with the engine where it is given, every lent buffer, the constructor of the function's name with every number, and
-every lent buffer again, one that is only read as it was at entry, all in the order of the parameters. A cold list has
-the numbers alone: its promise knows the call, since it alone lends a list.
+every lent buffer again, all in the order of the parameters; one that is only read is BUFFER.now in both places. A cold
+list has the numbers alone: its promise knows the call, since it alone lends a list.
 pinned.txt has the definitions that give these words their meaning.
 
 usage: promises.py [ROOT]
@@ -38,39 +38,42 @@ SHORT = ("forkcanyon.specs.ShortHost", "Promise")
 # A parameter that is no number of the call: the promise names it first.
 ENGINE = "Engine"
 
+# The crate that exports the calls of another, each with its namesake's promise and in its namesake's row.
+NAMESAKES = {"forkcanyon_c": "forkcanyon"}
+
 # What a promise says in place of the constructor with the numbers; of Written, the place and the text.
 SAID = {
-    "host::drain": "(Drain site (min budget mostTries))",
-    "forkcanyon::fc_drain": "(Drain site (min budget mostTries))",
-    "forkcanyon::fc_short_drain": "(Drain site (min budget mostTries))",
+    "host::drain": "(Drain site (min budget most_tries))",
+    "forkcanyon::fc_drain": "(Drain site (min budget most_tries))",
+    "forkcanyon::fc_short_drain": "(Drain site (min budget most_tries))",
     "cold::cold": "s hour threshold",
     "both::cold": "site hour threshold",
     "forkcanyon::fc_cold": "site hour threshold",
     "schedule::play": "p",
-    "schedule::write_answer": "0 (line number (numbersOf a))",
-    "schedule::write_listing": "0 (listing (now (input .entry)))",
+    "schedule::write_answer": "0 (line number (numbers_of a))",
+    "schedule::write_listing": "0 (listing input.now)",
 }
 
 # Where other words of a promise come from; a constructor comes from CALLS.
 CALLS = "rules.specs.Calls"
 HOMES = {
-    "min": "Prim.Native.Nat",
-    "mostTries": "host.specs.Host",
-    "numbersOf": "answers.specs.Answers",
+    "min": "std.specs.Prelude",
+    "most_tries": "host.specs.Host",
+    "numbers_of": "answers.specs.Answers",
     "line": "schedule.specs.Text",
     "listing": "schedule.specs.Listing",
 }
 
-# A host's number, and the name that the rules have for it; `now` is taken in a contract.
+# A host's number, and the name that the rules have for it; `now` is a word of clauses.
 RENAMED = {"sites": "n", "keys": "k", "hour": "now"}
 
 
 def names(text):
-    """(file, name) for each name that a use line brings in, the file without 'Rattle·' and the crate's own '·specs'."""
+    """(file, name) for each name that a use line brings in, the file without 'Rattle.'."""
     text = re.sub(r"(?://|--\s)[^\n]*", "", text)
     for module, brought in re.findall(r"\buse\s+([^\s{]+)\.\{([^}]*)\}", text):
         for name in brought.split(","):
-            yield re.sub(r"·specs(?=\.)", "", module).removeprefix("Rattle·"), name.strip()
+            yield module.removeprefix("Rattle."), name.strip()
 
 
 class Proved:
@@ -80,7 +83,7 @@ class Proved:
         self.theorems, self.about = set(), set()
         for file in sorted(root.glob("crates/*/specs/**/*.antt")):
             text = file.read_text()
-            found = re.findall(r"^pub (\S+)-no-second :", text, re.M)
+            found = re.findall(r"^pub (\S+)_no_second :", text, re.M)
             self.theorems.update(found)
             if found:
                 self.about.update(names(text))
@@ -101,7 +104,7 @@ def numbers_of(found):
     return [each for each, width in found if not width.startswith("&") and width != ENGINE]
 
 
-def expected(said, name, taken, result, promise):
+def expected(said, name, taken, promise):
     """The one promise of this form that the call may have."""
     found, _ = parameters(taken)
     lent = [each for each, width in found if width.startswith("&")]
@@ -109,22 +112,22 @@ def expected(said, name, taken, result, promise):
     numbers = numbers_of(found)
     engine = "".join(f" {each}" for each, width in found if width == ENGINE)
     call = SAID.get(said) or f"({' '.join([constructor(name), *numbers])})"
-    exits = " ".join(f"(now ({each} .exit))" for each in written)
-    left = " ".join(f"(now ({each} .{'exit' if each in written else 'entry'}))" for each in lent)
+    met = {each: f"{each}.old" if each in written else f"{each}.now" for each in lent}
+    left = {each: f"{each}.new" if each in written else f"{each}.now" for each in lent}
     if promise == WRITTEN:
-        return f"Written {' '.join(f'(now ({each} .entry))' for each in written)} {call} {result} {exits}"
-    entries = " ".join(f"(now ({each} .entry))" for each in lent)
-    return f"{promise[1]}{engine} {entries} {call} ({OUTCOMES[promise][1]} {result} {left})"
+        before, after = (" ".join(each[name] for name in written) for each in (met, left))
+        return f"Written {before} {call} result {after}"
+    return f"{promise[1]}{engine} {' '.join(met.values())} {call} ({OUTCOMES[promise][1]} result {' '.join(left.values())})"
 
 
-def foreign(wanted, promise, taken, result, brought):
+def foreign(wanted, promise, taken, brought):
     """The words of a promise that come from elsewhere than they should, or from there and elsewhere."""
     homes = {promise[1]: promise[0], **HOMES}
     if promise in OUTCOMES:
         home, outcome = OUTCOMES[promise]
         homes[outcome] = home
-    known = {result, "now", *(name for name, _ in parameters(taken)[0])}
-    for word in re.findall(r"(?<![\w.])[A-Za-z][\w-]*", wanted):
+    known = {"result", *(name for name, _ in parameters(taken)[0])}
+    for word in re.findall(r"(?<![\w.])[A-Za-z]\w*", wanted):
         if word not in known:
             home = homes.get(word, CALLS)
             if {(file, name) for file, name in brought if name.split()[-1:] == [word]} != {(home, word)}:
@@ -133,30 +136,30 @@ def foreign(wanted, promise, taken, result, brought):
 
 def call_faults(said, exports, taken, ensures, text, proved):
     name, brought = said.split("::")[-1], set(names(text))
-    clauses = [re.fullmatch(r"ensures \{ λ (\w+)\. ⌜ ((\w+) .*) ⌝ \}", clause) for clause in ensures]
+    clauses = [re.fullmatch(r"ensures (?:\w+ )?\{ ((\w+) .*) \}", clause) for clause in ensures]
     promises = brought & proved.about & {*OUTCOMES, *([] if exports else [WRITTEN])}
-    found = [(clause, each) for clause in clauses if clause for each in promises if each[1] == clause[3]]
+    found = [(clause, each) for clause in clauses if clause for each in promises if each[1] == clause[2]]
     if not found:
         yield "its ensures is not a promise that no second outcome is proved of"
         return
     for clause, promise in found:
-        wanted = expected(said, name, taken, clause[1], promise)
-        if clause[2] == wanted:
+        wanted = expected(said, name, taken, promise)
+        if clause[1] == wanted:
             break
     else:
         yield f"its promise is not {wanted}"
         return
     if (promise == SHORT) != name.startswith("fc_short_"):
         yield f"its promise is of {'short lists' if promise == SHORT else 'our engine'}"
-    yield from foreign(wanted, promise, taken, clause[1], brought)
+    yield from foreign(wanted, promise, taken, brought)
     for file, word in [promise, OUTCOMES.get(promise, promise)]:
         if not proved.pins(file, word):
             yield f"tests/promises/pinned.txt does not have its {word}"
     numbers = [RENAMED.get(each, each) for each in numbers_of(parameters(taken)[0])]
     if exports and said not in SAID and numbers != proved.fields.get(constructor(name)):
         yield f"its numbers are not those of {constructor(name)}, by name and in order"
-    if promise != WRITTEN and name.replace("_", "-") not in proved.theorems:
-        yield f"there is no theorem {name.replace('_', '-')}-no-second"
+    if promise != WRITTEN and name not in proved.theorems:
+        yield f"there is no theorem {name}_no_second"
 
 
 def function_faults(said, words, taken, clauses, text, proved):
@@ -187,9 +190,9 @@ def faults(root):
     for file in sorted(root.glob("crates/*/src/**/*.rt")):
         text, crate = file.read_text(), file.relative_to(root / "crates").parts[0]
         for name, words, taken, clauses in functions(text):
-            said = f"{crate}::{name}"
             if exported(words) or re.search(r"\bpub\b", words):
-                yield from (f"{said}: {each}" for each in function_faults(said, words, taken, clauses, text, proved))
+                row = f"{NAMESAKES.get(crate, crate)}::{name}"
+                yield from (f"{crate}::{name}: {each}" for each in function_faults(row, words, taken, clauses, text, proved))
 
 
 if __name__ == "__main__":

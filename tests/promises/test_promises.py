@@ -16,9 +16,9 @@ pub data Call : Type 0 where
   Drain : (site budget : ℕ) → Call
 """,
     "forkcanyon/specs/NoSecond.antt": """\
-use Rattle·host.specs.Host.{Hosted, Promise}
-pub fc-get-no-second : NoSecond
-pub fc-drain-no-second : NoSecond
+use Rattle.host.specs.Host.{Hosted, Promise}
+pub fc_get_no_second : NoSecond
+pub fc_drain_no_second : NoSecond
 """,
     "host/specs/Host.antt": """\
 abbrev pub left : ℕ → List ℕ → Hosted
@@ -32,16 +32,16 @@ PINNED = """\
 crates/host/specs/Host.antt: abbrev pub left : ℕ → List ℕ → Hosted left c t = (c, t)
 crates/host/specs/Host.antt: abbrev pub Promise : List ℕ → Call → Hosted → Type 0 Promise t c o = o ≡ host t c
 """
-KEPT = "    ensures { λ r. ⌜ Promise (now (t .entry)) (Get site key) (left r (now (t .exit))) ⌝ }\n"
-DRAIN = "(Drain site (min budget mostTries))"
+KEPT = "    ensures { Promise t.old (Get site key) (left result t.new) }\n"
+DRAIN = "(Drain site (min budget most_tries))"
 CODE = f"""\
-ghost use Prim.Native.Nat.{{min}};
-ghost use Rattle·rules.specs.Calls.{{Get, Drain}};
-ghost use Rattle·host.specs.Host.{{left, Promise, mostTries}};
+ghost use Rattle.std.specs.Prelude.{{min}};
+ghost use Rattle.rules.specs.Calls.{{Get, Drain}};
+ghost use Rattle.host.specs.Host.{{left, Promise, most_tries}};
 // pub fn ignored() {{ }}
 impl Table {{
     pub fn many(self) -> u8
-        ensures {{ λ r. ⌜ r ≡ 1 ⌝ }}
+        ensures {{ result ≡ 1 }}
     {{
         if self.n == b'{{' {{ 0 }} else {{ 1 }}
     }}
@@ -49,7 +49,7 @@ impl Table {{
 
 fn lower(t: &mut [u8]) {{ t[0] = 1; }}
 
-#[no_mangle]
+#[unsafe(no_mangle)]
 pub extern "C" fn fc_get(
     site: u64,
     key: u64,
@@ -59,9 +59,9 @@ pub extern "C" fn fc_get(
     0
 }}
 
-#[no_mangle]
+#[unsafe(no_mangle)]
 pub extern "C" fn fc_drain(site: u64, budget: u64, t: &mut [u8]) -> u32
-    ensures {{ λ r. ⌜ Promise (now (t .entry)) {DRAIN} (left r (now (t .exit))) ⌝ }}
+    ensures {{ Promise t.old {DRAIN} (left result t.new) }}
 {{
     0
 }}
@@ -71,19 +71,19 @@ TABLE = "`forkcanyon::fc_get` `forkcanyon::fc_drain`"
 MORE = ["more: it has no ensures", "more: docs/PROMISES.md has no row for it"]
 
 # A public function up to its promise, and the promise.
-HEAD = re.compile(r"(pub (?:extern \"C\" )?fn (\w+)\([^{]*?)(?:\s+ensures \{ λ r\. ⌜ (?:Promise|PromiseBy|Written) .*)+")
+HEAD = re.compile(r"(pub (?:extern \"C\" )?fn (\w+)\([^{]*?)(?:\s+ensures (?:\w+ )?\{ (?:Promise|PromiseBy|Written) .*)+")
 
 
 def not_promised(name, call):
-    return [f"{name}: its promise is not Promise (now (t .entry)) {call} (left r (now (t .exit)))"]
+    return [f"{name}: its promise is not Promise t.old {call} (left result t.new)"]
 
 
 class Small(unittest.TestCase):
-    def of(self, code, specs=None, table=TABLE, pinned=PINNED):
+    def of(self, code, specs=None, table=TABLE, pinned=PINNED, crate="forkcanyon"):
         with tempfile.TemporaryDirectory() as folder:
             root = Path(folder)
             files = {f"crates/{name}": text for name, text in {**SPECS, **(specs or {})}.items()}
-            files |= {"crates/forkcanyon/src/deep/lib.rt": code, "docs/PROMISES.md": table}
+            files |= {f"crates/{crate}/src/deep/lib.rt": code, "docs/PROMISES.md": table}
             files["tests/promises/pinned.txt"] = pinned
             for name, text in files.items():
                 (root / name).parent.mkdir(parents=True, exist_ok=True)
@@ -102,91 +102,97 @@ class Small(unittest.TestCase):
         self.assertEqual(self.of(CODE), [])
 
     def test_a_public_function_without_ensures(self):
-        self.assertEqual(self.edited(("ensures { λ r. ⌜ r ≡ 1 ⌝ }", "")), ["Table::many: it has no ensures"])
+        self.assertEqual(self.edited(("ensures { result ≡ 1 }", "")), ["Table::many: it has no ensures"])
         self.assertEqual(self.edited((KEPT, f"    // {KEPT.strip()}\n")), ["fc_get: it has no ensures"])
         self.assertEqual(self.of(CODE + "pub fn more<'a>(s: &'a [u8]) -> u8 { s[0] }"), ["more: it has no ensures"])
 
     def test_any_words_before_a_function(self):
-        attributes = ["#[no_mangle]", "#[no_mangle] pub", '#[export_name = "x"]']
+        attributes = ["#[no_mangle]", "#[unsafe(no_mangle)]", "#[unsafe(no_mangle)] pub", '#[unsafe(export_name = "x")]']
         for words in ['extern "C" unsafe', 'unsafe extern "C"', *attributes]:
             self.assertEqual(self.of(CODE + words + " fn more(site: u64) -> u32 { 0 }"), MORE, words)
 
     def test_a_call_that_requires_something(self):
         asks = "fc_get: a C program can't know what it requires"
-        self.assertEqual(self.edited((KEPT, "    requires { ⌜ site < 8 ⌝ }\n" + KEPT)), [asks])
-        trivial = [('pub extern "C" fn fc_get', "pub fn fc_get"), (KEPT, "    requires { ⌜ ⊤ ⌝ }\n" + KEPT)]
+        self.assertEqual(self.edited((KEPT, "    requires { site < 8 }\n" + KEPT)), [asks])
+        trivial = [('pub extern "C" fn fc_get', "pub fn fc_get"), (KEPT, "    requires { ⊤ }\n" + KEPT)]
         self.assertEqual(self.edited(*trivial), [asks])
 
     def test_another_ensures(self):
         other = "fc_get: its ensures is not a promise that no second outcome is proved of"
-        for said in ["r ≡ 0", "(Promise a b c → ⊥)", "Written a b c", "left r t ≡ host t"]:
-            self.assertEqual(self.edited((KEPT, f"    ensures {{ λ r. ⌜ {said} ⌝ }}\n")), [other])
-        lent = CODE + "pub fn wipe(t: &mut [u8]) ensures { λ _. ⌜ now (t .exit) ≡ [] ⌝ } { }"
+        for said in ["result ≡ 0", "(Promise a b c → ⊥)", "Written a b c", "left result t ≡ host t"]:
+            self.assertEqual(self.edited((KEPT, f"    ensures {{ {said} }}\n")), [other])
+        lent = CODE + "pub fn wipe(t: &mut [u8]) ensures { t.new ≡ [] } { }"
         self.assertEqual(self.of(lent, table=TABLE + "`forkcanyon::wipe`"), [other.replace("fc_get", "wipe")])
 
     def test_a_call_that_only_reads(self):
-        lent = CODE + "pub fn get(t: &[u8], site: usize) -> u8 ensures { λ r. ⌜ SAID ⌝ } { 0 }"
-        kept = "Promise (now (t .entry)) (Get site) (left r (now (t .entry)))"
-        specs = {"answers/specs/NoSecond.antt": "pub get-no-second : NoSecond\n"}
+        lent = CODE + "pub fn get(t: &[u8], site: usize) -> u8 ensures { SAID } { 0 }"
+        kept = "Promise t.now (Get site) (left result t.now)"
+        specs = {"answers/specs/NoSecond.antt": "pub get_no_second : NoSecond\n"}
         table = TABLE + "`forkcanyon::get`"
         self.assertEqual(self.of(lent.replace("SAID", kept), specs=specs, table=table), [])
-        for said in ["r ≡ 0", kept.replace(".entry)))", ".exit)))")]:
+        for said in ["result ≡ 0", kept.replace("t.now)", "t.new)"), kept.replace("t.now", "t.old")]:
             self.assertEqual(len(self.of(lent.replace("SAID", said), specs=specs, table=table)), 1, said)
-        self.assertEqual(self.of(lent.replace("SAID", kept)), ["get: there is no theorem get-no-second", "get: docs/PROMISES.md has no row for it"])
+        self.assertEqual(self.of(lent.replace("SAID", kept)), ["get: there is no theorem get_no_second", "get: docs/PROMISES.md has no row for it"])
 
     def test_a_call_with_its_engine(self):
-        kept = "PromiseBy engine (now (t .entry)) (Get site) (left r (now (t .exit)))"
-        taken = CODE + "pub fn get(t: &mut [u8], site: usize, engine: Engine) -> u8 ensures { λ r. ⌜ SAID ⌝ } { 0 }"
+        kept = "PromiseBy engine t.old (Get site) (left result t.new)"
+        taken = CODE + "pub fn get(t: &mut [u8], site: usize, engine: Engine) -> u8 ensures { SAID } { 0 }"
         found = lambda said: " ".join(self.of(taken.replace("SAID", said), table=TABLE + "`forkcanyon::get`"))
         self.assertIn("not a promise that no second outcome is proved of", found(kept))
-        self.assertIn("its promise is not Promise engine (now", found(kept.replace("PromiseBy engine", "Promise")))
+        self.assertIn("its promise is not Promise engine t.old", found(kept.replace("PromiseBy engine", "Promise")))
 
     def test_the_other_engine(self):
         name = "forkcanyon/specs/NoSecond.antt"
         words = {"forkcanyon/specs/ShortHost.antt": SPECS["host/specs/Host.antt"]}
-        words[name] = SPECS[name] + "use Rattle·forkcanyon·specs.specs.ShortHost.{Promise}\npub fc-short-get-no-second : NoSecond\n"
+        words[name] = SPECS[name] + "use Rattle.forkcanyon.specs.ShortHost.{Promise}\npub fc_short_get_no_second : NoSecond\n"
         table, pinned = TABLE + "`forkcanyon::fc_short_get`", PINNED + PINNED.replace("host/specs/Host", "forkcanyon/specs/ShortHost")
-        short = CODE.partition("#[no_mangle]\npub extern \"C\" fn fc_drain")[0].replace("fc_get", "fc_short_get")
+        short = CODE.partition("#[unsafe(no_mangle)]\npub extern \"C\" fn fc_drain")[0].replace("fc_get", "fc_short_get")
         self.assertEqual(self.of(short, words, table, pinned), ["fc_short_get: its promise is of our engine"])
-        mine = "specs.Host.{left, mostTries};\nghost use Rattle·forkcanyon·specs.specs.ShortHost.{Promise};"
-        short = short.replace("specs.Host.{left, Promise, mostTries};", mine)
+        mine = "specs.Host.{left, most_tries};\nghost use Rattle.forkcanyon.specs.ShortHost.{Promise};"
+        short = short.replace("specs.Host.{left, Promise, most_tries};", mine)
         self.assertEqual(self.of(short, words, table, pinned), [])
         other = short.replace("fc_short_get", "fc_get")
         self.assertEqual(self.of(other, words, table, pinned), ["fc_get: its promise is of short lists"])
 
+    def test_the_crate_of_the_archive(self):
+        self.assertEqual(self.of(CODE, crate="forkcanyon_c"), [])
+        kept = self.of(CODE.replace(DRAIN, "(Drain site budget)"), crate="forkcanyon_c")
+        self.assertEqual(kept, [f"forkcanyon_c::{each}" for each in not_promised("fc_drain", DRAIN)])
+        self.assertIn("other::fc_get: docs/PROMISES.md has no row for it", self.of(CODE, crate="other"))
+
     def test_a_pinned_word_renamed(self):
         name = "host/specs/Host.antt"
-        renamed = {name: "use Rattle·rules.specs.Engine.{long as short}\n\n" + SPECS[name]}
+        renamed = {name: "use Rattle.rules.specs.Engine.{long as short}\n\n" + SPECS[name]}
         self.assertEqual(self.of(CODE, renamed), [f"crates/{name}: a pinned word has another meaning: long as short"])
 
     def test_an_empty_promise(self):
         fault = not_promised("fc_get", "(Get site key)")
         for old, new in [
-            ("(left r (now (t .exit)))", "(shown r (now (t .exit)) (host (now (t .entry)) (Get site key)))"),
-            ("(left r (now (t .exit)))", "(left r (now (t .entry)))"),
-            ("(left r (now (t .exit)))", "(left 0 (now (t .exit)))"),
-            ("(left r (now (t .exit)))", "(left r (now (t .exit))) ⊎ ⊤"),
+            ("(left result t.new)", "(shown result t.new (host t.old (Get site key)))"),
+            ("(left result t.new)", "(left result t.old)"),
+            ("(left result t.new)", "(left 0 t.new)"),
+            ("(left result t.new)", "(left result t.new) ⊎ ⊤"),
             ("(Get site key)", "(Get key site)"),
             ("(Get site key)", "(Get site 0)"),
             ("(Get site key)", "(Deliver site key)"),
-            ("Promise (now (t .entry))", "Promise (now (t .exit))"),
+            ("Promise t.old", "Promise t.new"),
         ]:
             self.assertIn(old, KEPT)
             self.assertEqual(self.edited((KEPT, KEPT.replace(old, new))), fault, new)
-        for budget in ["budget", "(min budget 5)", "(min site mostTries)"]:
+        for budget in ["budget", "(min budget 5)", "(min site most_tries)"]:
             found = self.edited((DRAIN, f"(Drain site {budget})"))
             self.assertEqual(found, not_promised("fc_drain", DRAIN))
 
     def test_more_buffers_and_a_renamed_number(self):
-        promise = "Promise (now (t .entry)) (now (old .entry)) (now (list .entry)) (Touch site hour)"
-        said = f"ensures {{ λ r. ⌜ {promise} (left r (now (t .exit)) (now (old .entry)) (now (list .exit))) ⌝ }} {{ 0 }}"
-        code = CODE.replace("Drain}", "Drain, Touch}") + '#[no_mangle] pub extern "C" fn fc_touch'
+        promise = "Promise t.old old.now list.old (Touch site hour)"
+        said = f"ensures {{ {promise} (left result t.new old.now list.new) }} {{ 0 }}"
+        code = CODE.replace("Drain}", "Drain, Touch}") + '#[unsafe(no_mangle)] pub extern "C" fn fc_touch'
         taken = "(site: u64, hour: u64, t: &mut [u8], old: &[u8], list: &mut [u8]) -> u32 "
         words = {"forkcanyon/specs/More.antt": SPECS["forkcanyon/specs/NoSecond.antt"].replace("get", "touch")}
         others = {"specs": words, "table": TABLE + "`forkcanyon::fc_touch`"}
         self.assertEqual(self.of(code + taken + said, **others), [])
-        for left in ["(now (t .exit)) (now (list .exit))", "(now (list .exit)) (now (old .entry)) (now (t .exit))"]:
-            other = said.replace("(now (t .exit)) (now (old .entry)) (now (list .exit))", left)
+        for left in ["t.new list.new", "list.new old.now t.new"]:
+            other = said.replace("t.new old.now list.new", left)
             self.assertIn("fc_touch: its promise is not", " ".join(self.of(code + taken + other, **others)))
 
     def test_numbers_of_another_name(self):
@@ -203,9 +209,9 @@ class Small(unittest.TestCase):
         self.assertEqual(self.edited(("{left, ", "{shown as left, ")), left)
         get = ["fc_get: its Get is not the one of rules.specs.Calls"]
         self.assertEqual(self.edited(("{Get, ", "{Look as Get, ")), get)
-        self.assertEqual(self.of("ghost use Rattle·rules.specs.Old.{Get};\n" + CODE), get)
-        least = ["fc_drain: its min is not the one of Prim.Native.Nat"]
-        self.assertEqual(self.edited(("ghost use Prim", "// ghost use Prim")), least)
+        self.assertEqual(self.of("ghost use Rattle.rules.specs.Old.{Get};\n" + CODE), get)
+        least = ["fc_drain: its min is not the one of std.specs.Prelude"]
+        self.assertEqual(self.edited(("ghost use Rattle.std", "// ghost use Rattle.std")), least)
 
     def test_another_definition(self):
         for old, new in [("left c t = (c, t)", "left c t = (0, t)"), ("o ≡ host t c", "⊤")]:
@@ -218,8 +224,8 @@ class Small(unittest.TestCase):
 
     def test_no_theorem_and_no_row(self):
         name = "forkcanyon/specs/NoSecond.antt"
-        without = {name: SPECS[name].replace("fc-get-no-second", "fc-put-no-second")}
-        self.assertEqual(self.of(CODE, specs=without), ["fc_get: there is no theorem fc-get-no-second"])
+        without = {name: SPECS[name].replace("fc_get_no_second", "fc_put_no_second")}
+        self.assertEqual(self.of(CODE, specs=without), ["fc_get: there is no theorem fc_get_no_second"])
         rowless = TABLE.replace("`forkcanyon::fc_get`", "")
         self.assertEqual(self.of(CODE, table=rowless), ["fc_get: docs/PROMISES.md has no row for it"])
 
@@ -228,13 +234,15 @@ class Here(unittest.TestCase):
     def test_each_call_without_its_promise(self):
         with tempfile.TemporaryDirectory() as folder:
             root = Path(folder)
-            shutil.copytree(HERE / "crates", root / "crates")
+            shutil.copytree(HERE / "crates", root / "crates", ignore=shutil.ignore_patterns("out"))
             shutil.copytree(HERE / "docs", root / "docs")
             shutil.copytree(HERE / "tests" / "promises", root / "tests" / "promises")
             counts = {"table": 3, "look": 2, "deliver": 1, "retire": 1, "touch": 1, "cold": 1, "drain": 1}
-            counts |= {"host": 6, "both": 3, "forkcanyon": 9, "schedule": 3}
+            counts |= {"host": 6, "both": 3, "forkcanyon": 9, "forkcanyon_c": 9, "schedule": 3}
             files = {f"{crate}/src/lib.rt": calls for crate, calls in counts.items()}
-            files |= {"both/src/cold_list.rt": 1, "forkcanyon/src/cold_list.rt": 1, "forkcanyon/src/short_lists.rt": 6}
+            files |= {"both/src/cold_list.rt": 1}
+            for crate in ("forkcanyon", "forkcanyon_c"):
+                files |= {f"{crate}/src/cold_list.rt": 1, f"{crate}/src/short_lists.rt": 6}
             for name, calls in files.items():
                 file, crate = root / "crates" / name, name.split("/")[0]
                 kept = file.read_text()

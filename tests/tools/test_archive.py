@@ -1,4 +1,4 @@
-"""tools/archive with a small kit, on an Arm machine and on x86-64: what it writes where, and that it stops."""
+"""tools/archive with a small rt: what it writes where, and that it stops."""
 
 import os
 import subprocess
@@ -8,25 +8,12 @@ from pathlib import Path
 
 from support import ROOT
 
-# Stands in for rt: it has the kit's clang write an archive, as the kit's own rt does.
+# Stands in for rt: it writes the archive of the crate in whose folder it runs.
 RT = """\
 #!/bin/sh
-kit='{kit}'
-case $1 in
-doc) [ -z "$NO_GUIDE" ] || exit 3; echo "$kit/docs/START-HERE.md" ;;
-staticlib)
-    mkdir -p target/staticlib room.$$ && touch room.$$/m.bc && cd room.$$ || exit 1
-    "${{RATTLE_HOME:-$kit}}/on/$MACHINE/toolchain/bin/clang" --target=x86_64 -march=x86-64 m.bc -o out || exit 1
-    sleep 0.2
-    mv out ../target/staticlib/lib$2.a ;;
-esac
-"""
-# Stands in for clang: it says what it was asked for in what it writes.
-CLANG = """\
-#!/bin/sh
-said=$*
-while [ "$1" != -o ]; do shift; done
-echo "$said" >"$2"
+[ "$*" = lib ] || exit 3
+[ -z "$REFUSED" ] || exit 1
+mkdir -p out && sleep 0.2 && mkdir "$LOCK" && basename "$PWD" >"out/lib$(basename "$PWD").a" && rmdir "$LOCK"
 """
 
 
@@ -35,46 +22,49 @@ class Archive(unittest.TestCase):
         folder = tempfile.TemporaryDirectory()
         self.addCleanup(folder.cleanup)
         self.root = Path(folder.name)
-        self.kit = self.root / "the kit"
-        self.script(self.root / "tools" / "archive", (ROOT / "tools" / "archive").read_text())
-        self.script(self.root / "bin" / "rt", RT.format(kit=self.kit))
-        self.script(self.root / "bin" / "uname", '#!/bin/sh\necho "$MACHINE"\n')
-        for machine in ["aarch64", "x86_64"]:
-            self.script(self.kit / "on" / machine / "toolchain" / "bin" / "clang", CLANG)
+        self.script("tools/archive", (ROOT / "tools" / "archive").read_text())
+        self.script("bin/rt", RT)
+        self.script("bin/uname", '#!/bin/sh\necho "$MACHINE"\n')
+        (self.root / "crates" / "forkcanyon_c").mkdir(parents=True)
+        self.archive = self.root / "build" / "x86_64" / "libforkcanyon.a"
 
-    def script(self, file, text):
+    def script(self, name, text):
+        file = self.root / name
         file.parent.mkdir(parents=True, exist_ok=True)
         file.write_text(text)
         file.chmod(0o755)
 
-    def begin(self, machine, **words):
-        path = {"PATH": f"{self.root}/bin:{os.environ['PATH']}"}
+    def begin(self, machine="x86_64", **words):
+        path = {"PATH": f"{self.root}/bin:{os.environ['PATH']}", "LOCK": f"{self.root}/at work"}
         words = {**os.environ, **path, "MACHINE": machine, **words}
         command = [self.root / "tools" / "archive"]
         return subprocess.Popen(command, stdout=subprocess.PIPE, stderr=subprocess.PIPE, text=True, env=words)
 
-    def run_archive(self, machine, **words):
-        with self.begin(machine, **words) as run:
+    def run_archive(self, *machine, **words):
+        with self.begin(*machine, **words) as run:
             _, said = run.communicate()
         return run.returncode, said
 
-    def written(self, machine):
-        return (self.root / "build" / machine / "libforkcanyon.a").read_text().split()
-
-    def test_each_machine_has_its_own(self):
-        self.assertEqual(self.run_archive("x86_64"), (0, ""))
-        self.assertEqual(self.run_archive("aarch64"), (0, ""))
-        self.assertEqual(self.written("x86_64"), ["--target=x86_64", "-march=x86-64", "m.bc", "-o", "out"])
-        arm = ["--target=aarch64-unknown-linux-gnu", "-Wno-override-module", "module.ll", "-o", "out"]
-        self.assertEqual(self.written("aarch64"), arm)
+    def test_it_has_the_calls_for_c(self):
+        self.assertEqual(self.run_archive(), (0, ""))
+        self.assertEqual(self.archive.read_text(), "forkcanyon_c\n")
 
     def test_two_at_once(self):
-        runs = [self.begin("aarch64") for _ in range(3)]
+        runs = [self.begin() for _ in range(3)]
         self.assertEqual([(run.communicate()[1], run.returncode) for run in runs], [("", 0)] * 3)
 
-    def test_a_kit_for_other_machines(self):
-        self.assertEqual(self.run_archive("riscv64"), (2, "the kit has no on/riscv64/toolchain/bin/clang\n"))
-        self.assertEqual(self.run_archive("aarch64", NO_GUIDE="1"), (3, ""))
+    def test_one_that_is_not_proved(self):
+        self.assertEqual(self.run_archive(REFUSED="1"), (1, ""))
+        self.assertFalse(self.archive.exists())
+        # Nor is one taken that an earlier run has left.
+        self.script("bin/rt", "#!/bin/sh\n")
+        self.script("crates/forkcanyon_c/out/libforkcanyon_c.a", "old\n")
+        self.assertEqual(self.run_archive()[0], 1)
+        self.assertFalse(self.archive.exists())
+
+    def test_another_machine(self):
+        self.assertEqual(self.run_archive("aarch64"), (2, "Rattle compiles for x86-64, and this machine is aarch64\n"))
+        self.assertFalse((self.root / "build").exists())
 
 
 unittest.main()

@@ -12,12 +12,15 @@ from support import ROOT
 # Stands in for rt: a line, then whatever waits for the file that shows that the line was seen, then the verdict.
 RT = """\
 #!/bin/sh
-[ "$1" = ci ] || exit 0
-echo "rt: clock proved (1 s)"
-echo "rt: layout proved (2 s)"
+[ "$*" = ci ] || exit 3
+echo "rt: clock proved"
+echo "rt: layout proved"
 cat seen
+[ -z "$OK" ] || echo "$OK"
 echo "$VERDICT"
+exit "$STATUS"
 """
+OK = "rt: ok; handles allowed: none; must-fail edits: 7 refused; done in this run: 2 of the 2 proofs"
 
 
 class Gate(unittest.TestCase):
@@ -71,29 +74,43 @@ class Gate(unittest.TestCase):
         (self.root / "tests" / "two").rmdir()
         self.assertEqual(self.run_tests(), (1, ["tests/two/run: FAILED: there is no such file"]))
 
-    def gate(self, verdict):
+    def gate(self, verdict, ok=OK, status=0):
         """The gate's lines; it is shown the file that it waits for only once its first line was read."""
         self.script("bin/rt", RT)
         os.mkfifo(self.root / "seen")
-        words = {**os.environ, "PATH": f"{self.root}/bin:{os.environ['PATH']}", "VERDICT": verdict}
+        said = {"VERDICT": verdict, "OK": ok, "STATUS": str(status)}
+        words = {**os.environ, **said, "PATH": f"{self.root}/bin:{os.environ['PATH']}"}
         command = [self.root / ".ci" / "run"]
         with subprocess.Popen(command, stdout=subprocess.PIPE, text=True, env=words) as run:
             first = run.stdout.readline()
-            (self.root / "seen").write_text("rt: seen\n")
+            if first.startswith("rt: "):  # else nobody reads it
+                (self.root / "seen").write_text("rt: seen\n")
             rest = run.stdout.read()
         return run.returncode, (first + rest).splitlines()
 
     def test_lines_as_they_come_and_the_verdict_last(self):
-        lines = ["rt: clock proved (1 s)", "rt: layout proved (2 s)", "rt: seen", "== tests/one/run", "one"]
+        lines = ["rt: clock proved", "rt: layout proved", "rt: seen", OK, "== tests/one/run", "one"]
         self.assertEqual(self.gate("2 passed, 0 failed"), (0, [*lines, "2 passed, 0 failed"]))
 
     def test_no_verdict_where_rt_or_a_test_fails(self):
-        status, lines = self.gate("1 passed, 1 failed")
+        status, lines = self.gate("1 passed, 1 failed", "")
         self.assertEqual((status, lines[-1]), (1, "gate: FAILED: rt ci: 1 passed, 1 failed"))
+        (self.root / "seen").unlink()
+        status, lines = self.gate("2 passed, 0 failed", status=1)
+        self.assertEqual((status, lines[-1]), (1, "gate: FAILED: rt ci: 2 passed, 0 failed"))
         (self.root / "seen").unlink()
         self.script("tests/one/run", "#!/bin/sh\nexit 1\n")
         status, lines = self.gate("2 passed, 0 failed")
         self.assertEqual((status, lines[-1]), (1, "gate: FAILED: tests/run"))
+
+    def test_no_verdict_where_an_edit_is_bad(self):
+        for refused in ("7 refused, 1 bad", "7 refused, 2 of them only by a limit, 12 bad", "0 refused, 7 bad"):
+            ok = OK.replace("7 refused", refused)
+            status, lines = self.gate("2 passed, 0 failed", ok)
+            self.assertEqual((status, lines[-2:]), (1, [ok, f"gate: FAILED: {ok}"]))
+            (self.root / "seen").unlink()
+        status, lines = self.gate("2 passed, 0 failed", "")
+        self.assertEqual((status, lines[-1]), (1, "gate: FAILED: rt ci: it has no line 'rt: ok'"))
 
 
 unittest.main()

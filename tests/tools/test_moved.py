@@ -10,7 +10,7 @@ from support import ROOT
 from declared import laws, promises
 
 LAWS = """\
-use other.Laws.{a}
+use Rattle.other.specs.Laws.{a}
 -- a comment
 unfoldable pub grow : ℕ → ℕ
 grow zero = 1
@@ -35,13 +35,13 @@ CODE = """\
 impl Cursor {
     pub fn read(self, at: u8) -> u8
         requires { at < 4 }
-        ensures { λ r. record { fits = r } }
+        ensures fits { record { fits = result } }
     {
         if at == b'{' { 0 } else { 1 }
     }
     fn silent() { let x = 1; }
 }
-pub fn body(s: &[u8]) -> u8 ensures { now s } { s[0] }
+pub fn body(s: &[u8]) -> u8 ensures { s.now } { s[0] }
 """
 
 
@@ -65,8 +65,8 @@ class Declared(unittest.TestCase):
     def test_names_of_promises(self):
         found = promises(CODE)
         self.assertEqual(list(found), ["Cursor::read", "body"])
-        self.assertTrue(found["Cursor::read"].endswith("ensures { λ r. record { fits = r } }"))
-        self.assertEqual(found["body"], "fn body(s: &[u8]) -> u8 ensures { now s }")
+        self.assertTrue(found["Cursor::read"].endswith("requires { at < 4 } ensures fits { record { fits = result } }"))
+        self.assertEqual(found["body"], "fn body(s: &[u8]) -> u8 ensures { s.now }")
 
 
 class Moved(unittest.TestCase):
@@ -95,8 +95,8 @@ class Moved(unittest.TestCase):
         return subprocess.run(command, cwd=self.folder.name, capture_output=True, text=True, check=False)
 
     def test_each_kind_by_name(self):
-        proof = "returns : Need\nreturns = search\n"
-        self.commit("one", {"a/specs/Laws.antt": LAWS, "a/src/lib.rt": CODE, "a/proofs/body/Proof.antt": proof})
+        proof = "returns : goal.returns\nreturns c = search rules\n"
+        self.commit("one", {"a/specs/Laws.antt": LAWS, "a/src/lib.rt": CODE, "a/proofs/body/Answers.antt": proof})
         changed = LAWS.replace("n + 2", "n + 3  -- more").replace("pub after : ℕ\nafter = 3\n", "pub new : ℕ\n")
         code = CODE.replace("at < 4", "at < 5").replace("s[0]", "s[1]")
         more = "pub after : ℕ\nafter  = 3\n"
@@ -111,7 +111,7 @@ class Moved(unittest.TestCase):
                 "promises: 1 changed, 0 added, 0 removed, 0 carried, 1 stayed",
                 "  changed  a: lib.Cursor::read",
                 "proofs: 0 changed, 0 added, 1 removed, 0 carried, 0 stayed",
-                "  removed  a: body.Proof.returns",
+                "  removed  a: body.Answers.returns",
             ],
         )
 

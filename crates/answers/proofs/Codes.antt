@@ -2,14 +2,11 @@
 use mathlib.Core.Path.{◌≡◌, refl}
 use mathlib.Core.Bool.{Bool, true, false}
 use mathlib.Core.List.{[], ◌∷◌, ◌++◌}
-use mathlib.Core.Logic.{⊎_elim, ◌≢◌}
+use mathlib.Core.Logic.{◌≢◌}
 use native.Mathlib.Omega.{arith}
-use types.Run.{OneOf}
-use denote.Enum.Declared.{tag_of}
-use Rattle.clock.specs.Map.{if◌then◌else◌}
+use Rattle.clock.specs.Map.{when◌then◌else◌}
 use Rattle.rules.specs.Refusals.{Refusals, first}
 use Rattle.laws.proofs.Given.{Avoids}
-use Rattle.answers.specs.contracts.Refusal.{the_type}
 use Rattle.answers.specs.declared.Refusal.{Refusal}
 use Rattle.answers.specs.declared.Refusal.TheVariants.{Nothing, Size, Unsound, Counts, Site, Same, Key, Spent, Full, NoNext, NoRecord, OutOfRange, Changed, Retired, LastLive}
 use Rattle.answers.specs.Answers.{code_of}
@@ -18,7 +15,7 @@ pub first_then : (ps qs : Refusals) → Avoids 0 ps → first ps ≡ 0 → first
 first_then [] qs h e = refl
 first_then (p ∷ ps) qs h e = go p.1 refl e (first_then ps qs h.1)
   where
-    go : (t : Bool) → p.1 ≡ t → (if t then p.0 else first ps) ≡ 0 → (first ps ≡ 0 → first qs ≡ first (ps ++ qs)) → first qs ≡ (if p.1 then p.0 else first (ps ++ qs))
+    go : (t : Bool) → p.1 ≡ t → (when t then p.0 else first ps) ≡ 0 → (first ps ≡ 0 → first qs ≡ first (ps ++ qs)) → first qs ≡ (when p.1 then p.0 else first (ps ++ qs))
     go true f z r = absurd (h.0 z)
     go false f z r = rw f (r z)
 
@@ -26,18 +23,14 @@ pub first_stop : (ps qs : Refusals) → first ps ≢ 0 → first ps ≡ first (p
 first_stop [] qs h = absurd (h refl)
 first_stop (p ∷ ps) qs h = go p.1 refl h (first_stop ps qs)
   where
-    go : (t : Bool) → p.1 ≡ t → (if t then p.0 else first ps) ≢ 0 → (first ps ≢ 0 → first ps ≡ first (ps ++ qs))
-        → (if p.1 then p.0 else first ps) ≡ (if p.1 then p.0 else first (ps ++ qs))
+    go : (t : Bool) → p.1 ≡ t → (when t then p.0 else first ps) ≢ 0 → (first ps ≢ 0 → first ps ≡ first (ps ++ qs))
+        → (when p.1 then p.0 else first ps) ≡ (when p.1 then p.0 else first (ps ++ qs))
     go true f z r = rw f
     go false f z r = rw f (r z)
 
 -- the other arms of a match on a refusal
-pub refusing : (r : Refusal) → OneOf (1 ∷ 2 ∷ 3 ∷ 4 ∷ 5 ∷ 6 ∷ 7 ∷ 8 ∷ 9 ∷ 10 ∷ 11 ∷ 12 ∷ 13 ∷ 14 ∷ []) (tag_of the_type r) → code_of r ≢ 0
-refusing Nothing h = absurd (never h)
-  where
-    never : OneOf (1 ∷ 2 ∷ 3 ∷ 4 ∷ 5 ∷ 6 ∷ 7 ∷ 8 ∷ 9 ∷ 10 ∷ 11 ∷ 12 ∷ 13 ∷ 14 ∷ []) 0 → ⊥
-    never =
-        ⊎_elim (λ e. omega arith) (⊎_elim (λ e. omega arith) (⊎_elim (λ e. omega arith) (⊎_elim (λ e. omega arith) (⊎_elim (λ e. omega arith) (⊎_elim (λ e. omega arith) (⊎_elim (λ e. omega arith) (⊎_elim (λ e. omega arith) (⊎_elim (λ e. omega arith) (⊎_elim (λ e. omega arith) (⊎_elim (λ e. omega arith) (⊎_elim (λ e. omega arith) (⊎_elim (λ e. omega arith) (λ e. omega arith)))))))))))))
+pub refusing : (r : Refusal) → r ≢ Nothing → code_of r ≢ 0
+refusing Nothing h = absurd (h refl)
 refusing Size h = omega arith
 refusing Unsound h = omega arith
 refusing Counts h = omega arith

@@ -1,9 +1,11 @@
 // What a call answers, why it is refused, and the number of each; and the two engines that a call can have.
+#![tactic(auto)]
+
 ghost use Rattle.std.specs.Prelude.{◌≡◌};
 ghost use Rattle.answers.specs.Answers.{code_of, numbers_of};
 
 // Why a call is refused; Nothing where it is not.
-#[derive(Drop)]
+#[derive(Clone, Copy)]
 pub enum Refusal {
     Nothing,
     Size,
@@ -23,14 +25,14 @@ pub enum Refusal {
 }
 
 // How a site keeps what it depends on, and whether puts are ranked by it: in full and ranked, or as a short list.
-#[derive(Drop)]
+#[derive(Clone, Copy)]
 pub enum Engine {
     Ranked,
     Short,
 }
 
 // What a call answers.
-#[derive(Drop)]
+#[derive(Clone, Copy)]
 pub enum Answer {
     Done {
         key: u8,

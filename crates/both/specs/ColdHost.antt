@@ -1,6 +1,6 @@
 -- What a cold list from a C program returns, and what it leaves in the three buffers. Assumes nothing.
 use Rattle.std.specs.Prelude.{◌≡◌, List, ℕ, eqb, length}
-use Rattle.clock.specs.Map.{if◌then◌else◌}
+use Rattle.clock.specs.Map.{when◌then◌else◌}
 use Rattle.rules.specs.Refusals.{cold_words}
 use Rattle.rules.specs.Calls.{serve_list}
 use Rattle.reply.specs.Reply.{reply_bytes, reply_of}
@@ -20,7 +20,7 @@ left c t l r = record { code = c; table = t; list = l; reply = r }
 unfoldable pub host : (table list reply : List ℕ) → (site hour threshold : ℕ) → Hosted
 host t l r s hour T =
     let w = serve_list t l s hour T in
-    if eqb (length r) reply_bytes then left w.answer.code w.bytes w.list (reply_of w.answer)
+    when eqb (length r) reply_bytes then left w.answer.code w.bytes w.list (reply_of w.answer)
     else left (unsized (cold_words hour T (length l))) t l r
 
 -- the promise of a cold list from a C program

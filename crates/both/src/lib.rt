@@ -1,4 +1,6 @@
 // The calls that serve both engines, as a C program makes them: open, look and retire, and beside them the cold list.
+#![tactic(auto)]
+
 ghost use Rattle.rules.specs.Calls.{Open, Look, Retire};
 ghost use Rattle.host.specs.Host.{left, Promise};
 

@@ -14,7 +14,7 @@ use Rattle.clock.proofs.Bits.{bit_above}
 use Rattle.layout.specs.State.{State, last_clock}
 use Rattle.rules.specs.Engine.{ours}
 use Rattle.rules.specs.Live.{Live}
-use Rattle.rules.specs.Sound.{sound, Sound}
+use Rattle.rules.specs.Sound.{Sound}
 use Rattle.rules.specs.Steps as r
 use Rattle.rules.specs.Steps.{Numbers, Outcome}
 use Rattle.rules.specs.Calls.{Call, Put, Get, Look, Adopt, Retire, Deliver, refusals, step, run}

@@ -6,7 +6,7 @@ use mathlib.Core.Logic.{◌⊎◌, inl, inr, ⊎_elim}
 use Prim.Native.Nat.{ℕ}
 use lib.Dec.{eqb}
 use borrow.Author.Tests.{eqb-true, eq-eqb}
-use Rattle.clock.specs.Map.{if◌then◌else◌}
+use Rattle.clock.specs.Map.{when◌then◌else◌}
 use Rattle.clock.specs.Lists.{◌∈◌, Before}
 use Rattle.causal.specs.World.{Event, put, get, look, adopt, update, retire}
 use Rattle.causal.specs.History.{History, Ranks, Op, Write, op, order, Ordered, AppliedExactly}
@@ -24,7 +24,7 @@ in_right a [] m q = q
 in_right a (x ∷ l) m q = inr (in_right a l m q)
 
 -- what stands in a list of at most one
-one : {A : Type 0} (i : Bool) (a b : A) → a ∈ (if i then b ∷ [] else []) → (i ≡ true) × (a ≡ b)
+one : {A : Type 0} (i : Bool) (a b : A) → a ∈ (when i then b ∷ [] else []) → (i ≡ true) × (a ≡ b)
 one true a b (inl r) = (refl, r)
 one true a b (inr r) = absurd r
 one false a b r = absurd r

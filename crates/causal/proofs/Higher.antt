@@ -4,7 +4,7 @@ use mathlib.Core.Bool.{Bool, true, ◌&&◌, ◌||◌}
 use mathlib.Core.Logic.{◌↔◌}
 use Prim.Native.Nat.{ℕ}
 use lib.Dec.{eqb, ltb, leb}
-use Rattle.clock.specs.Map.{if◌then◌else◌}
+use Rattle.clock.specs.Map.{when◌then◌else◌}
 use Rattle.clock.proofs.Says.{Says, says_same, says_eq, says_lt, says_le, says_and, says_or}
 use Rattle.laws.proofs.Ranks.{Under}
 use Rattle.causal.specs.World.{Set, Rank, Answer, never, wrote, nth, Replaces}
@@ -28,10 +28,10 @@ higher_new r v' o' c' v o c h = rw ((over_says r o' c' o c).1 h)
 
 -- an update replaces an entry exactly where its put is the higher
 pub judged : (r : Ranks) (w : Answer) (d e : Set) (v o c : ℕ) (b : Bool) → Rank d (r o c) → ((o' c' : ℕ) → Names w o' c' → Rank e (r o' c'))
-    → ((b ≡ true) ↔ Replaces o d w e) → higher r w v o c ≡ (if b then wrote v o c else w)
+    → ((b ≡ true) ↔ Replaces o d w e) → higher r w v o c ≡ (when b then wrote v o c else w)
 judged r never d e v o c b p q k = rw (k.1 tt)
 judged r (wrote v' o' c') d e v o c b p q k =
-    ap (λ (t : Bool). if t then wrote v o c else wrote v' o' c')
+    ap (λ (t : Bool). when t then wrote v o c else wrote v' o' c')
     (says_same (over_says r o' c' o c) k (
       λ z. (r o c, r o' c', p, q o' c' (refl, refl), z),
       λ z. let (i, j, x, y, u) = z in rw (rank_one d (r o c) i p x, rank_one e (r o' c') j (q o' c' (refl, refl)) y) u,

@@ -2,12 +2,12 @@
 use mathlib.Core.Path.{◌≡◌, refl, sym, ap, ◌∙◌}
 use mathlib.Core.Bool.{Bool, true, false}
 use mathlib.Core.List.{List, [], ◌∷◌}
-use mathlib.Core.Logic.{◌⊎◌, inl, inr, ⊎_elim, ◌≢◌}
+use mathlib.Core.Logic.{inl, inr, ⊎_elim, ◌≢◌}
 use Prim.Native.Nat.{ℕ, ◌≤◌, ◌<◌}
 use native.Mathlib.Omega.{arith}
 use lib.Dec.{eqb}
 use borrow.Author.Tests.{eqb-false}
-use Rattle.clock.specs.Map.{if◌then◌else◌}
+use Rattle.clock.specs.Map.{when◌then◌else◌}
 use Rattle.clock.specs.Lists.{◌∈◌}
 use Rattle.clock.proofs.Maps.{eq?, le?, both}
 use Rattle.laws.proofs.Ranks.{Under}
@@ -56,7 +56,7 @@ top : (r : Ranks) (w : Answer) (v o c : ℕ) → Top r w o c (higher r w v o c)
 top r never v o c = record { value = v; origin = o; clock = c; is = refl; new = under_same _ _; old = λ o' c' k. absurd k }
 top r (wrote v' o' c') v o c = go (over r o' c' o c) refl
   where
-    go : (t : Bool) → over r o' c' o c ≡ t → Top r (wrote v' o' c') o c (if t then wrote v o c else wrote v' o' c')
+    go : (t : Bool) → over r o' c' o c ≡ t → Top r (wrote v' o' c') o c (when t then wrote v o c else wrote v' o' c')
     go true e =
         record { value = v; origin = o; clock = c; is = refl; new = under_same _ _; old = λ o'' c'' k. rw (k.0, k.1) ((over_says r o' c' o c).0 e) }
     go false e =
@@ -83,7 +83,7 @@ lookup_most r x (Read y w ∷ l) o c v (inl q) = clash (cc)
 lookup_most r x (Read y w ∷ l) o c v (inr q) = lookup_most r x l o c v q
 lookup_most r x (Write o₁ c₁ y v₁ ∷ l) o c v (inl q) = go (eqb y x) refl
   where
-    go : (b : Bool) → eqb y x ≡ b → Least r o c (if b then higher r (lookup r x l) v₁ o₁ c₁ else lookup r x l)
+    go : (b : Bool) → eqb y x ≡ b → Least r o c (when b then higher r (lookup r x l) v₁ o₁ c₁ else lookup r x l)
     go true e =
         let t = top r (lookup r x l) v₁ o₁ c₁ in
         let p : o ≡ o₁ = cc in
@@ -92,7 +92,7 @@ lookup_most r x (Write o₁ c₁ y v₁ ∷ l) o c v (inl q) = go (eqb y x) refl
     go false e = absurd (eqb-false y x e (cc))
 lookup_most r x (Write o₁ c₁ y v₁ ∷ l) o c v (inr q) = go (eqb y x) (lookup_most r x l o c v q)
   where
-    go : (b : Bool) → Least r o c (lookup r x l) → Least r o c (if b then higher r (lookup r x l) v₁ o₁ c₁ else lookup r x l)
+    go : (b : Bool) → Least r o c (lookup r x l) → Least r o c (when b then higher r (lookup r x l) v₁ o₁ c₁ else lookup r x l)
     go true k = least_more r o c (lookup r x l) v₁ o₁ c₁ k
     go false k = k
 

@@ -8,7 +8,7 @@ use native.Mathlib.Omega.{arith}
 use lib.Dec.{eqb}
 use lib.ListN.{length}
 use borrow.Author.Tests.{eqb-true, eq-eqb}
-use Rattle.clock.specs.Map.{if◌then◌else◌, ◌⟨◌≔◌⟩, ◌⟨◌⟩⟨◌≔◌⟩}
+use Rattle.clock.specs.Map.{when◌then◌else◌, ◌⟨◌≔◌⟩, ◌⟨◌⟩⟨◌≔◌⟩}
 use Rattle.clock.proofs.Maps.{choice, at_same, at_other}
 use Rattle.causal.specs.World.{Set, Rank, Update, Replaces, just, ◌∪◌, Answer, wrote, Entry, World, nth, due, waiting, learned, with_get, with_update, Behind, CausesApplied, Event, put, get, look, adopt, update, retire, start}
 use Rattle.clock.specs.Lists.{◌∈◌}
@@ -132,7 +132,7 @@ module _ (r : Ranks) (h : History) (W : World) (t x : ℕ) (I : Inv r h W) where
   abbrev found : Answer
   found = (W.store t x).answer
 
-  looked : (s : ℕ) → SiteOf r W s ((if eqb t s then Read x found ∷ [] else []) ++ order s h)
+  looked : (s : ℕ) → SiteOf r W s ((when eqb t s then Read x found ∷ [] else []) ++ order s h)
   looked s =
       choice (eqb t s) (λ (l : List Op). SiteOf r W s (l ++ order s h))
       (λ e. subst (λ (z : ℕ). SiteOf r W z (Read x found ∷ order z h)) (eqb-true t s e) (look_site x (I.site t)))
@@ -228,7 +228,7 @@ module _ (r : Ranks) (h : History) (W : World) (t o : ℕ) (others : t ≢ o) (t
     abbrev fresh : Entry
     fresh = record { answer = wrote up.value o (due W t o); depends = up.depends }
 
-    update_here : Site r W.updates (W.depends t) (W.applied t ↑ o) (if b then W.store t ⟨ up.key ≔ fresh ⟩ else W.store t) (arrived ∷ order t h)
+    update_here : Site r W.updates (W.depends t) (W.applied t ↑ o) (when b then W.store t ⟨ up.key ≔ fresh ⟩ else W.store t) (arrived ∷ order t h)
     update_here =
         write_site r W.updates (W.depends t) (W.depends t) (W.applied t) (W.store t) (order t h) o up (I.site t)
         there
@@ -240,12 +240,12 @@ module _ (r : Ranks) (h : History) (W : World) (t o : ℕ) (others : t ≢ o) (t
         (judged r entry.answer up.depends entry.depends up.value o (due W t o) b (right o (due W t o) update_issued) entry_rank replaces)
 
     -- the store of a site is that of t, or as it was
-    update_store : (s : ℕ) → (with_update W t o b).store s ≡ (if eqb t s then (if b then W.store t ⟨ up.key ≔ fresh ⟩ else W.store t) else W.store s)
+    update_store : (s : ℕ) → (with_update W t o b).store s ≡ (when eqb t s then (when b then W.store t ⟨ up.key ≔ fresh ⟩ else W.store t) else W.store s)
     update_store s = go b (eqb t s) refl
       where
         go : (b i : Bool) → eqb t s ≡ i
-            → (if b then (W.store ⟨ t ⟩⟨ up.key ≔ fresh ⟩) else W.store) s ≡ (if i then (if b then W.store t ⟨ up.key ≔ fresh ⟩ else W.store t) else W.store s)
-        go true i e = ap (λ (z : Bool). if z then W.store t ⟨ up.key ≔ fresh ⟩ else W.store s) e
+            → (when b then (W.store ⟨ t ⟩⟨ up.key ≔ fresh ⟩) else W.store) s ≡ (when i then (when b then W.store t ⟨ up.key ≔ fresh ⟩ else W.store t) else W.store s)
+        go true i e = ap (λ (z : Bool). when z then W.store t ⟨ up.key ≔ fresh ⟩ else W.store s) e
         go false true e = ap W.store (sym (eqb-true t s e))
         go false false e = refl
 
@@ -254,11 +254,11 @@ module _ (r : Ranks) (h : History) (W : World) (t o : ℕ) (others : t ≢ o) (t
     update_site s = subst (λ (m : ℕ → Entry). Site r W.updates (W.depends s) ((W.applied ⟨ t ⟩⟨ o ≔ due W t o ⟩) s) m (order s (brought ∷ h))) (sym (update_store s)) (go (eqb t s) refl)
       where
         go : (i : Bool) → eqb t s ≡ i
-            → Site r W.updates (W.depends s) (if i then (W.applied t ↑ o) else W.applied s) (if i then (if b then W.store t ⟨ up.key ≔ fresh ⟩ else W.store t) else W.store s)
-            ((if i then arrived ∷ [] else []) ++ order s h)
+            → Site r W.updates (W.depends s) (when i then (W.applied t ↑ o) else W.applied s) (when i then (when b then W.store t ⟨ up.key ≔ fresh ⟩ else W.store t) else W.store s)
+            ((when i then arrived ∷ [] else []) ++ order s h)
         go true e =
             subst
-            (λ (z : ℕ). Site r W.updates (W.depends z) (W.applied t ↑ o) (if b then W.store t ⟨ up.key ≔ fresh ⟩ else W.store t) (arrived ∷ order z h))
+            (λ (z : ℕ). Site r W.updates (W.depends z) (W.applied t ↑ o) (when b then W.store t ⟨ up.key ≔ fresh ⟩ else W.store t) (arrived ∷ order z h))
             (eqb-true t s e)
             update_here
         go false e = I.site s

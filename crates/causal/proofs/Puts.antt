@@ -8,7 +8,7 @@ use native.Mathlib.Omega.{arith}
 use lib.Dec.{eqb}
 use lib.ListN.{length, length-append}
 use borrow.Author.Tests.{eqb-true, eq-eqb}
-use Rattle.clock.specs.Map.{if◌then◌else◌, ◌⟨◌≔◌⟩}
+use Rattle.clock.specs.Map.{when◌then◌else◌, ◌⟨◌≔◌⟩}
 use Rattle.clock.proofs.Maps.{choice, at_same}
 use Rattle.causal.specs.World.{Set, Rank, just, ◌∪◌, Update, Answer, never, wrote, Entry, World, nth, learned, with_put, Event, put, PUT, GET, LOOK, ADOPT, UPDATE, RETIRE, Run, begin, more}
 use Rattle.clock.specs.Lists.{◌∈◌}
@@ -67,7 +67,7 @@ module _ (r : Ranks) (h : History) (W : World) (t x w : ℕ) (I : Inv r h W) whe
   put_count s = go (eqb t s) refl
     where
       go : (b : Bool) → eqb t s ≡ b
-          → (if b then (W.applied t ↑ t) else W.applied s) s ≡ length (if b then W.updates t ++ (up ∷ []) else W.updates s)
+          → (when b then (W.applied t ↑ t) else W.applied s) s ≡ length (when b then W.updates t ++ (up ∷ []) else W.updates s)
       go true e =
           subst (λ (z : ℕ). (W.applied t ↑ t) z ≡ length (W.updates t ++ (up ∷ []))) (eqb-true t s e)
           (at_same (W.applied t) t (suc (W.applied t t)) ∙ omega (arith, I.own_count t, length-append (W.updates t) (up ∷ [])))
@@ -204,9 +204,9 @@ module _ (r : Ranks) (h : History) (W : World) (t x w : ℕ) (I : Inv r h W) whe
     put_site s = go (eqb t s) refl
       where
         go : (b : Bool) → eqb t s ≡ b
-            → Site r u' (if b then row ∪ just t (next W t) else W.depends s) (if b then (W.applied t ↑ t) else W.applied s)
-            (if b then (W.store t ⟨ x ≔ kept (next W t) ⟩) else W.store s)
-            ((if b then Write t (next W t) x w ∷ [] else []) ++ order s h)
+            → Site r u' (when b then row ∪ just t (next W t) else W.depends s) (when b then (W.applied t ↑ t) else W.applied s)
+            (when b then (W.store t ⟨ x ≔ kept (next W t) ⟩) else W.store s)
+            ((when b then Write t (next W t) x w ∷ [] else []) ++ order s h)
         go true e =
             subst
             (λ (z : ℕ). Site r u' (row ∪ just t (next W t)) (W.applied t ↑ t) (W.store t ⟨ x ≔ kept (next W t) ⟩) (Write t (next W t) x w ∷ order z h))

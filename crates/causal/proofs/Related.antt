@@ -8,7 +8,7 @@ use native.Mathlib.Omega.{arith}
 use lib.Dec.{eqb, eqb-suc-zero}
 use lib.ListN.{length, length-append}
 use borrow.Author.Tests.{eqb-true, eqb-false, eq-eqb, ne_eqb}
-use Rattle.clock.specs.Map.{if◌then◌else◌, ◌⟨◌≔◌⟩, ◌⟨◌⟩⟨◌≔◌⟩}
+use Rattle.clock.specs.Map.{when◌then◌else◌, ◌⟨◌≔◌⟩, ◌⟨◌⟩⟨◌≔◌⟩}
 use Rattle.clock.specs.Vector.{Vector}
 use Rattle.clock.proofs.Maps.{choice, eq?, related, related₂}
 use Rattle.layout.specs.State.{State, Entry, Update, with_depends}
@@ -39,7 +39,7 @@ SameUpdate e u = (u.key ≡ e.key) × (u.value ≡ e.value) × Tops e.depends u.
 -- the entry of a put that is made or applied has a clock above 0
 pub written : (v o c c' : ℕ) → c' ≡ suc c → wrote v o c' ≡ answer v o (suc c)
 written v o c c' e =
-    ap (λ (z : ℕ). wrote v o z) e ∙ sym (ap (λ (t : Bool). if t then never else wrote v o (suc c)) (eqb-suc-zero c))
+    ap (λ (z : ℕ). wrote v o z) e ∙ sym (ap (λ (t : Bool). when t then never else wrote v o (suc c)) (eqb-suc-zero c))
 
 -- ## Deliver
 
@@ -111,7 +111,7 @@ module _ (S : State) (s o : ℕ) (R : DeliverReady S s o) (W : World) (A : Abstr
   made = record { value = u.value; origin = o; zero = 0; clock = r.next S s o; depends = u.depends }
 
   deliver_entry : (b : Bool) (s' x : ℕ) → s' < S.n → x < S.k
-      → SameEntry ((if b then S.store ⟨ s ⟩⟨ u.key ≔ made ⟩ else S.store) s' x) ((with_update W s o b).store s' x)
+      → SameEntry ((when b then S.store ⟨ s ⟩⟨ u.key ≔ made ⟩ else S.store) s' x) ((with_update W s o b).store s' x)
   deliver_entry true s' x p q =
       rw waits.0
       (related₂ SameEntry S.store W.store s u.key made _ s' x
@@ -158,8 +158,8 @@ module _ (S : State) (s x : ℕ) (R : GetReady S s x) (W : World) (A : Abstracts
   get_row = rw (A.answers s x R.site R.key) (go (eqb e.clock 0))
     where
       go : (t : Bool)
-          → Tops (if t then S.depends s else taken_on (S.depends s) e)
-          (W.depends s ∪ learned (if t then never else wrote e.value e.origin e.clock) (W.store s x).depends)
+          → Tops (when t then S.depends s else taken_on (S.depends s) e)
+          (W.depends s ∪ learned (when t then never else wrote e.value e.origin e.clock) (W.store s x).depends)
       go true = tops_same _ (W.depends s) _ (λ o c h. inl h) (λ o c. ⊎_elim (λ h. h) absurd) (A.depends s R.site)
       go false =
           tops_same _ ((W.depends s ∪ (W.store s x).depends) ∪ just e.origin e.clock) _
@@ -172,8 +172,8 @@ module _ (S : State) (s x : ℕ) (R : GetReady S s x) (W : World) (A : Abstracts
   unfolding r.get learn
   get_related = go (eqb e.clock 0) get_row
     where
-      go : (t : Bool) → Tops (if t then S.depends s else taken_on (S.depends s) e) D
-          → Abstracts (if t then S else with_depends S (S.depends ⟨ s ≔ taken_on (S.depends s) e ⟩)) (with_get W s x)
+      go : (t : Bool) → Tops (when t then S.depends s else taken_on (S.depends s) e) D
+          → Abstracts (when t then S else with_depends S (S.depends ⟨ s ≔ taken_on (S.depends s) e ⟩)) (with_get W s x)
       go true k =
           depends_related S W S.depends _ A
           (λ s' p. choice (eqb s s') (Tops (S.depends s')) (λ q. subst (λ (z : ℕ). Tops (S.depends z) D) (eqb-true s s' q) k) (λ q. A.depends s' p))

@@ -8,7 +8,7 @@ use native.Mathlib.Omega.{arith}
 use lib.Dec.{eqb, ltb, leb}
 use lib.ListN.{length}
 use borrow.Author.Tests.{eqb-true}
-use Rattle.clock.specs.Map.{if◌then◌else◌, ◌⟨◌≔◌⟩}
+use Rattle.clock.specs.Map.{when◌then◌else◌, ◌⟨◌≔◌⟩}
 use Rattle.clock.proofs.Maps.{choice, at_is, at_same}
 use Rattle.causal.specs.World.{Set, ◌∪◌, Update, Answer, never, wrote, Entry, nth, learned, World}
 use Rattle.clock.specs.Lists.{◌∈◌, Before}
@@ -48,7 +48,7 @@ lookup_in r x [] v o c e = clash (cc)
 lookup_in r x (Read y w ∷ l) v o c e = inr (lookup_in r x l v o c e)
 lookup_in r x (Write o' c' y v' ∷ l) v o c e = go (eqb y x) refl e (lookup_in r x l v o c)
   where
-    go : (b : Bool) → eqb y x ≡ b → (if b then higher r (lookup r x l) v' o' c' else lookup r x l) ≡ wrote v o c
+    go : (b : Bool) → eqb y x ≡ b → (when b then higher r (lookup r x l) v' o' c' else lookup r x l) ≡ wrote v o c
         → (lookup r x l ≡ wrote v o c → Write o c x v ∈ l) → Write o c x v ∈ (Write o' c' y v' ∷ l)
     go true p q f = ⊎_elim (λ i. let z : y ≡ x = eqb-true y x p in inl (cc)) (λ i. inr (f (sym i ∙ q))) (higher_is r (lookup r x l) v' o' c')
     go false p q f = inr (f q)
@@ -138,7 +138,7 @@ module _ (r : Ranks) (u : Updates) (d d' : Set) (a : ℕ → ℕ) (m : ℕ → E
   fresh = record { answer = wrote up.value o (suc (a o)); depends = up.depends }
 
   abbrev stores : Bool → ℕ → Entry
-  stores b = if b then m ⟨ up.key ≔ fresh ⟩ else m
+  stores b = when b then m ⟨ up.key ≔ fresh ⟩ else m
 
   write_sets : (b : Bool) (x o' c : ℕ) → Names (stores b x).answer o' c → (o'' c'' : ℕ) → (stores b x).depends o'' c'' ↔ (nth (u o') c).depends o'' c''
   write_sets false x o' c = S.sets x o' c
@@ -146,20 +146,20 @@ module _ (r : Ranks) (u : Updates) (d d' : Set) (a : ℕ → ℕ) (m : ℕ → E
       choice (eqb up.key x) (λ (e : Entry). Names e.answer o' c → (o'' c'' : ℕ) → e.depends o'' c'' ↔ (nth (u o') c).depends o'' c'')
       (λ q k o'' c''. rw (nth_at u o' o c (suc (a o)) up k.0 k.1 is) ((λ z. z), λ z. z)) (λ q. S.sets x o' c)
 
-  write_table : (b : Bool) → higher r (m up.key).answer up.value o (suc (a o)) ≡ (if b then fresh.answer else (m up.key).answer)
+  write_table : (b : Bool) → higher r (m up.key).answer up.value o (suc (a o)) ≡ (when b then fresh.answer else (m up.key).answer)
       → (x : ℕ) → (stores b x).answer ≡ lookup r x (new ∷ l)
   write_table true w x = go (eqb up.key x) refl
     where
-      go : (i : Bool) → eqb up.key x ≡ i → (if i then fresh else m x).answer ≡ (if i then higher r (lookup r x l) up.value o (suc (a o)) else lookup r x l)
+      go : (i : Bool) → eqb up.key x ≡ i → (when i then fresh else m x).answer ≡ (when i then higher r (lookup r x l) up.value o (suc (a o)) else lookup r x l)
       go true e = sym (subst (λ (z : ℕ). higher r (lookup r z l) up.value o (suc (a o)) ≡ fresh.answer) (eqb-true up.key x e) (rw (← S.table up.key) w))
       go false e = S.table x
   write_table false w x = go (eqb up.key x) refl
     where
-      go : (i : Bool) → eqb up.key x ≡ i → (m x).answer ≡ (if i then higher r (lookup r x l) up.value o (suc (a o)) else lookup r x l)
+      go : (i : Bool) → eqb up.key x ≡ i → (m x).answer ≡ (when i then higher r (lookup r x l) up.value o (suc (a o)) else lookup r x l)
       go true e = sym (subst (λ (z : ℕ). higher r (lookup r z l) up.value o (suc (a o)) ≡ (m z).answer) (eqb-true up.key x e) (rw (← S.table up.key) w))
       go false e = S.table x
 
-  pub write_site : (b : Bool) → higher r (m up.key).answer up.value o (suc (a o)) ≡ (if b then fresh.answer else (m up.key).answer)
+  pub write_site : (b : Bool) → higher r (m up.key).answer up.value o (suc (a o)) ≡ (when b then fresh.answer else (m up.key).answer)
       → Site r u d' (a ↑ o) (stores b) (new ∷ l)
   write_site b w =
       record {

@@ -7,7 +7,7 @@ use Prim.Native.Nat.{ℕ, zero, suc, ◌≤◌, ◌<◌}
 use native.Mathlib.Omega.{arith}
 use lib.Dec.{eqb}
 use borrow.Author.Tests.{eq-eqb, ne_eqb}
-use Rattle.clock.specs.Map.{if◌then◌else◌, bit}
+use Rattle.clock.specs.Map.{when◌then◌else◌, bit}
 use Rattle.clock.specs.Lists.{◌∈◌, Before}
 use Rattle.clock.specs.Vector.{rank}
 use Rattle.clock.proofs.Maps.{eq?}
@@ -133,7 +133,7 @@ accepted_delivery {S} {h} T s o z e =
     let r = run ours S (Deliver s o) in
     let a = r.answer in
     subst (λ (i : ℕ). Traced r.after (update s i a.clock a.key a.value ∷ h)) (sym e)
-    (subst (λ (t : Bool). Traced r.after (if t then update s o a.clock a.key a.value ∷ h else h)) (eq-eqb a.code 0 z) (deliver_traced T s o))
+    (subst (λ (t : Bool). Traced r.after (when t then update s o a.clock a.key a.value ∷ h else h)) (eq-eqb a.code 0 z) (deliver_traced T s o))
 
 delivers_traced : {s : ℕ} {S R : State} {h : History} {made : List Numbers} → Traced S h → Delivers ours s S made R → Traced R (map (delivered s) made ++ h)
 delivers_traced T start = T
@@ -222,7 +222,7 @@ draining_traced : {S : State} {h : History} → Traced S h → (s b : ℕ) → T
 unfolding step drain
 draining_traced {S} {h} T s b =
     ⊎_elim
-    (λ p. rw p.1 (subst (λ t. Traced (drained ours S s b).after (if t then map (delivered s) (drained ours S s b).made ++ h else h)) (sym made) (drain_traced T s b)))
+    (λ p. rw p.1 (subst (λ t. Traced (drained ours S s b).after (when t then map (delivered s) (drained ours S s b).made ++ h else h)) (sym made) (drain_traced T s b)))
     (λ p.
     let e = run_refused ours S (Drain s b) p.0 in
     let z : eqb (run ours S (Drain s b)).answer.code 0 || eqb (run ours S (Drain s b)).answer.code 11 ≡ false =
@@ -311,7 +311,7 @@ played E S h (c ∷ cs) = played E (run E S c).after (after_call E S c (run E S 
 
 pub played_traced : {S : State} {h : History} → Traced S h → (cs : List Call) → let p = played ours S h cs in Traced p.0 p.1
 played_traced T [] = T
-played_traced T (c ∷ cs) = played_traced (run_traced T c) cs
+played_traced {S = S} {h = h} T (c ∷ cs) = played_traced {S = (run ours S c).after} (run_traced T c) cs
 
 -- from a freshly opened table
 pub played_causal : (n k : ℕ) → OpenReady n k → (cs : List Call) → let p = played ours (opened n k) [] cs in Causal p.0 (λ c. (run ours p.0 c).answer) p.1

@@ -6,7 +6,7 @@ use Prim.Native.Nat.{ℕ, ◌≤◌, ◌<◌, max}
 use native.Mathlib.Omega.{arith}
 use lib.Dec.{eqb}
 use borrow.Author.Tests.{eqb-true}
-use Rattle.clock.specs.Map.{if◌then◌else◌}
+use Rattle.clock.specs.Map.{when◌then◌else◌}
 use Rattle.clock.specs.Vector.{Vector, zeros, join, note}
 use Rattle.clock.proofs.Maps.{at_is, at_same, le?}
 use Rattle.causal.specs.World.{Set, ∅, just, ◌∪◌, Tops}
@@ -52,7 +52,7 @@ tops_note v d o c b k =
     own o' c' p = rw p.0 (omega (arith, p.1, at_same v o (max (v o) c)))
 
     go : (o' : ℕ) → o' < 8 → (t : Bool) → eqb o o' ≡ t → (v o ≤ c) ⊎ (c < v o)
-        → ((if t then max (v o) c else v o') ≡ 0) ⊎ ((d ∪ just o c) o' (if t then max (v o) c else v o'))
+        → ((when t then max (v o) c else v o') ≡ 0) ⊎ ((d ∪ just o c) o' (when t then max (v o) c else v o'))
     go o' h true e (inl l) = inr (inr (sym (eqb-true o o' e), omega arith))
     go o' h true e (inr l) =
         let y : v o ≡ v o' = ap v (eqb-true o o' e) in

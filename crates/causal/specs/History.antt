@@ -1,6 +1,6 @@
 -- Causal consistency of a history, worked out from its events alone. Assumes nothing.
 use Rattle.std.specs.Prelude.{◌≡◌, ◌&&◌, ◌||◌, List, [], ◌∷◌, ◌++◌, ◌⊎◌, ◌↔◌, ◌≢◌, ℕ, ◌<◌, eqb, ltb, leb}
-use Rattle.clock.specs.Map.{if◌then◌else◌}
+use Rattle.clock.specs.Map.{when◌then◌else◌}
 use Rattle.clock.specs.Lists.{◌∈◌, Before}
 use Rattle.causal.specs.World.{Rank, Answer, never, wrote, World, nth, Behind, CausesApplied, Event, put, get, look, adopt, update, retire}
 
@@ -29,11 +29,11 @@ pub data Op : Type 0 where
 
 -- the order of site s: its gets and looks and the puts applied there, its own and those it was handed, as they came, the newest first
 unfoldable pub op : ℕ → Event → List Op
-op s (put t x v c) = if eqb t s then Write t c x v ∷ [] else []
-op s (get t x a) = if eqb t s then Read x a ∷ [] else []
-op s (look t x a) = if eqb t s then Read x a ∷ [] else []
+op s (put t x v c) = when eqb t s then Write t c x v ∷ [] else []
+op s (get t x a) = when eqb t s then Read x a ∷ [] else []
+op s (look t x a) = when eqb t s then Read x a ∷ [] else []
 op s (adopt t x a) = []
-op s (update t o c x v) = if eqb t s then Write o c x v ∷ [] else []
+op s (update t o c x v) = when eqb t s then Write o c x v ∷ [] else []
 op s (retire t) = []
 
 unfoldable pub order : ℕ → History → List Op
@@ -49,12 +49,12 @@ Ranks = ℕ → ℕ → ℕ
 -- the put (o, c) of v beside the highest so far: the higher rank, "of equal ranks the one with the higher origin"
 abbrev pub higher : Ranks → Answer → (v o c : ℕ) → Answer
 higher r never v o c = wrote v o c
-higher r (wrote v' o' c') v o c = if ltb (r o' c') (r o c) || (eqb (r o' c') (r o c) && leb o' o) then wrote v o c else wrote v' o' c'
+higher r (wrote v' o' c') v o c = when ltb (r o' c') (r o c) || (eqb (r o' c') (r o c) && leb o' o) then wrote v o c else wrote v' o' c'
 
 -- "the highest-ranked put of its key so far in its order"
 abbrev pub lookup : Ranks → ℕ → List Op → Answer
 lookup r x [] = never
-lookup r x (Write o c y v ∷ l) = if eqb y x then higher r (lookup r x l) v o c else lookup r x l
+lookup r x (Write o c y v ∷ l) = when eqb y x then higher r (lookup r x l) v o c else lookup r x l
 lookup r x (Read y a ∷ l) = lookup r x l
 
 -- in h the event e came next after those of p

@@ -1,6 +1,6 @@
 -- What the table's numbers mean in figure 7, when a call is figure 7's step, and what the history of calls must be. Assumes nothing.
 use Rattle.std.specs.Prelude.{◌≡◌, true, ◌||◌, [], ◌∷◌, ◌++◌, map, ◌↔◌, ◌≢◌, ℕ, zero, suc, ◌+◌, ◌^◌, ◌≤◌, ◌<◌, eqb, length}
-use Rattle.clock.specs.Map.{if◌then◌else◌, bit}
+use Rattle.clock.specs.Map.{when◌then◌else◌, bit}
 use Rattle.clock.specs.Lists.{◌∈◌, Before}
 use Rattle.clock.specs.Vector.{Vector, join, note, rank}
 use Rattle.layout.specs.State.{State, last_clock}
@@ -26,7 +26,7 @@ pub record SameAnswers (v : Vector) (d : Set) : Type 1 where
 
 -- clock 0 is the mark of a key never written
 abbrev pub answer : (value origin clock : ℕ) → Answer
-answer v o c = if eqb c 0 then never else wrote v o c
+answer v o c = when eqb c 0 then never else wrote v o c
 
 -- the world's parts in the table's numbers; updates that every live site has applied are free
 pub record Abstracts (S : State) (W : World) : Type 0 where
@@ -62,16 +62,16 @@ looked S s (suc m) h = look s m (found S s m) ∷ looked S s m h
 -- the history after a call: a refused one makes no event, opening starts a new history, a drain has the events of its deliveries, also before an 11,
 -- a cold list its looks, a touch its get and its put; a retirement is no event of any order
 abbrev pub after_call : Engine → State → Call → Numbers → History → History
-after_call E S (Open n k) a h = if eqb a.code 0 then [] else h
-after_call E S (Put s x v) a h = if eqb a.code 0 then put s x v a.clock ∷ h else h
-after_call E S (Get s x) a h = if eqb a.code 0 then get s x (answer a.value a.site a.clock) ∷ h else h
-after_call E S (Deliver s o) a h = if eqb a.code 0 then update s o a.clock a.key a.value ∷ h else h
-after_call E S (Drain s b) a h = if eqb a.code 0 || eqb a.code 11 then map (λ (d : Numbers). update s d.site d.clock d.key d.value) (drained E S s b).made ++ h else h
-after_call E S (Cold s now T m) a h = if eqb a.code 0 then looked S s S.k h else h
-after_call E S (Touch s x now u r) a h = if eqb a.code 0 then put s x a.value a.clock ∷ get s x (found S s x) ∷ h else h
-after_call E S (Look s x) a h = if eqb a.code 0 then look s x (answer a.value a.site a.clock) ∷ h else h
-after_call E S (Adopt s x o c) a h = if eqb a.code 0 then adopt s x (answer a.value a.site a.clock) ∷ h else h
-after_call E S (Retire s) a h = if eqb a.code 0 then retire s ∷ h else h
+after_call E S (Open n k) a h = when eqb a.code 0 then [] else h
+after_call E S (Put s x v) a h = when eqb a.code 0 then put s x v a.clock ∷ h else h
+after_call E S (Get s x) a h = when eqb a.code 0 then get s x (answer a.value a.site a.clock) ∷ h else h
+after_call E S (Deliver s o) a h = when eqb a.code 0 then update s o a.clock a.key a.value ∷ h else h
+after_call E S (Drain s b) a h = when eqb a.code 0 || eqb a.code 11 then map (λ (d : Numbers). update s d.site d.clock d.key d.value) (drained E S s b).made ++ h else h
+after_call E S (Cold s now T m) a h = when eqb a.code 0 then looked S s S.k h else h
+after_call E S (Touch s x now u r) a h = when eqb a.code 0 then put s x a.value a.clock ∷ get s x (found S s x) ∷ h else h
+after_call E S (Look s x) a h = when eqb a.code 0 then look s x (answer a.value a.site a.clock) ∷ h else h
+after_call E S (Adopt s x o c) a h = when eqb a.code 0 then adopt s x (answer a.value a.site a.clock) ∷ h else h
+after_call E S (Retire s) a h = when eqb a.code 0 then retire s ∷ h else h
 
 -- figure 7's step of a live site, its label the call's event and the whole answer; its world is that of the table, which is sound; a retired site is live no longer, every other as before
 pub record Steps (S : State) (W : World) (c : Call) (r : Outcome) : Type 1 where

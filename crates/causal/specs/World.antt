@@ -1,7 +1,7 @@
 -- Chapar's figure 7: worlds (its tuples, as maps by site), labels, and the rules PUT, GET and UPDATE, without the clients' statements;
 -- GET in two, LOOK and ADOPT; PUT and UPDATE as request (e) amends them, with ranks; and RETIRE. Assumes nothing.
 use Rattle.std.specs.Prelude.{◌≡◌, Bool, true, List, [], ◌∷◌, ◌++◌, ◌⊎◌, ◌↔◌, ◌≢◌, ℕ, suc, ◌-◌, ◌≤◌, ◌<◌, length, get_or}
-use Rattle.clock.specs.Map.{if◌then◌else◌, ◌⟨◌≔◌⟩, ◌⟨◌⟩⟨◌≔◌⟩}
+use Rattle.clock.specs.Map.{when◌then◌else◌, ◌⟨◌≔◌⟩, ◌⟨◌⟩⟨◌≔◌⟩}
 use Rattle.clock.specs.Vector.{Vector, rank}
 
 -- D: a set of puts, each named by the pair of its site and its clock
@@ -92,7 +92,7 @@ with_update W s o replaces =
       depends = W.depends;
       updates = W.updates;
       applied = W.applied ⟨ s ⟩⟨ o ≔ due W s o ⟩;
-      store = if replaces then W.store ⟨ s ⟩⟨ u.key ≔ record { answer = wrote u.value o (due W s o); depends = u.depends } ⟩ else W.store;
+      store = when replaces then W.store ⟨ s ⟩⟨ u.key ≔ record { answer = wrote u.value o (due W s o); depends = u.depends } ⟩ else W.store;
     }
 
 -- an update of o with the set d replaces what the answer and the set e say: "if that is never written, or if the update's rank is higher,

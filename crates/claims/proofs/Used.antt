@@ -9,7 +9,7 @@ use native.Mathlib.Omega.{arith}
 use lib.Dec.{eqb}
 use lib.ListN.{length}
 use borrow.Author.Tests.{eq-eqb, ne_eqb}
-use Rattle.clock.specs.Map.{if◌then◌else◌}
+use Rattle.clock.specs.Map.{when◌then◌else◌}
 use Rattle.clock.specs.Lists.{◌∈◌}
 use Rattle.clock.proofs.Maps.{eq?, true_or_false}
 use Rattle.layout.specs.State.{State, Entry, state_of, last_clock}
@@ -128,7 +128,7 @@ newest k = cc
 
 -- an accepted call whose event is known
 settled : {S : State} {W : World} {c : Call} {P : Type 0} {r : Outcome} → Refines S W c P r → P → (e : Event)
-    → after_call ours S c r.answer [] ≡ (if eqb r.answer.code 0 then e ∷ [] else [])
+    → after_call ours S c r.answer [] ≡ (when eqb r.answer.code 0 then e ∷ [] else [])
     → (r.answer ≡ numbers (label W e)) × ((b : Bool) × Abstracts r.after (leaves W e b) × Judged W e b) × Sound r.after
     × ((t : ℕ) → Live r.after t ↔ (Live S t × (e ≢ retire t)))
 settled {S} {W} {r = r} R p e is =
@@ -148,7 +148,7 @@ stayed S T f D l = (D, λ t. ((λ k. ((l t).0 k).0), λ k. (l t).1 (k, f t)))
 
 -- and no update
 settled_so : {S : State} {W W' : World} {c : Call} {P : Type 0} {r : Outcome} → Refines S W c P r → P → (e : Event) → ((t : ℕ) → e ≢ retire t) → ((b : Bool) → leaves W e b ≡ W')
-    → after_call ours S c r.answer [] ≡ (if eqb r.answer.code 0 then e ∷ [] else [])
+    → after_call ours S c r.answer [] ≡ (when eqb r.answer.code 0 then e ∷ [] else [])
     → (r.answer ≡ numbers (label W e)) × Abstracts r.after W' × Left S r.after
 settled_so {S} {r = r} R p e f left is = let (a, A, D, l) = settled R p e is in (a, subst (Abstracts r.after) (left A.0) A.1, stayed S r.after f D l)
 

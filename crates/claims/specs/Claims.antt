@@ -32,7 +32,7 @@ use Rattle.answers.specs.NoSecond as table
 use Rattle.table.specs.Worked as worked
 use Rattle.host.specs.Host.{most_tries}
 use Rattle.forkcanyon.specs.NoSecond as host
-use Rattle.forkcanyon.specs.ShortNoSecond as short-host
+use Rattle.forkcanyon.specs.ShortNoSecond as short_host
 use Rattle.both.specs.ColdHost as fc_cold
 use Rattle.both.specs.ColdHost.{Hosted}
 use Rattle.cold.specs.Listing as cold
@@ -124,12 +124,12 @@ pub record NoSecondOutcome : Type 0 where
   pub fc_cold : (t l r : List ℕ) (s hour T : ℕ)
       → ((o o' : Hosted) → fc_cold.Promise t l r s hour T o → fc_cold.Promise t l r s hour T o' → o ≡ o') × ((o : Hosted) × fc_cold.Promise t l r s hour T o)
   pub fc_drain : (s b : ℕ) → host.NoSecond (Drain s (min b most_tries)) × host.One (Drain s (min b most_tries))
-  pub fc_short_put : (s x v : ℕ) → short-host.NoSecond (Put s x v) × short-host.One (Put s x v)
-  pub fc_short_get : (s x : ℕ) → short-host.NoSecond (Get s x) × short-host.One (Get s x)
-  pub fc_short_adopt : (s x o c : ℕ) → short-host.NoSecond (Adopt s x o c) × short-host.One (Adopt s x o c)
-  pub fc_short_touch : (s x hour u r : ℕ) → short-host.NoSecond (Touch s x hour u r) × short-host.One (Touch s x hour u r)
-  pub fc_short_deliver : (s o : ℕ) → short-host.NoSecond (Deliver s o) × short-host.One (Deliver s o)
-  pub fc_short_drain : (s b : ℕ) → short-host.NoSecond (Drain s (min b most_tries)) × short-host.One (Drain s (min b most_tries))
+  pub fc_short_put : (s x v : ℕ) → short_host.NoSecond (Put s x v) × short_host.One (Put s x v)
+  pub fc_short_get : (s x : ℕ) → short_host.NoSecond (Get s x) × short_host.One (Get s x)
+  pub fc_short_adopt : (s x o c : ℕ) → short_host.NoSecond (Adopt s x o c) × short_host.One (Adopt s x o c)
+  pub fc_short_touch : (s x hour u r : ℕ) → short_host.NoSecond (Touch s x hour u r) × short_host.One (Touch s x hour u r)
+  pub fc_short_deliver : (s o : ℕ) → short_host.NoSecond (Deliver s o) × short_host.One (Deliver s o)
+  pub fc_short_drain : (s b : ℕ) → short_host.NoSecond (Drain s (min b most_tries)) × short_host.One (Drain s (min b most_tries))
   pub plays : (t : List ℕ) (p : Step) → ((w w' : Served) → Promise t p w → Promise t p w' → w ≡ w') × ((w : Served) × Promise t p w)
   pub written : {before text after after' : List ℕ} {at end end' : ℕ} → Written before at text end after → Written before at text end' after'
       → (end ≡ end') × (after ≡ after')

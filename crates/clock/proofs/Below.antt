@@ -5,7 +5,7 @@ use mathlib.Core.Logic.{⊎_elim, ◌≢◌}
 use Prim.Native.Nat.{ℕ, zero, suc, ◌+◌, ◌≤◌, ◌<◌}
 use native.Mathlib.Numerals.{add-one}
 use native.Mathlib.Omega.{arith}
-use Rattle.clock.specs.Map.{if◌then◌else◌, all, any, least}
+use Rattle.clock.specs.Map.{when◌then◌else◌, all, any, least}
 use Rattle.clock.proofs.Maps.{both, le?, eq?, true_or_false}
 use Rattle.clock.proofs.Says.{Says, Denies, says_itself, denies_itself, says_all, denies_any}
 
@@ -59,9 +59,9 @@ module _ (p : ℕ → Bool) where
     where
       go : (a b : Bool) → any m p ≡ a → p m ≡ b → a || b ≡ true
           → (any m p ≡ true → (least m p < m) × (p (least m p) ≡ true) × ((i : ℕ) → i < least m p → p i ≡ false))
-          → ((if a then least m p else if b then m else suc m) < suc m)
-          × (p (if a then least m p else if b then m else suc m) ≡ true)
-          × ((i : ℕ) → i < (if a then least m p else if b then m else suc m) → p i ≡ false)
+          → ((when a then least m p else when b then m else suc m) < suc m)
+          × (p (when a then least m p else when b then m else suc m) ≡ true)
+          × ((i : ℕ) → i < (when a then least m p else when b then m else suc m) → p i ≡ false)
       go true b q u w f = let r = f q in (omega arith, r.1, r.2)
       go false true q u w f = (omega arith, u, (any_denies m).0 q)
       go false false q u w f = both w refl

@@ -7,11 +7,11 @@ use native.Mathlib.Nat.{add-mul, mul-add, mul-one, one-mul, mul-le-mul_right}
 use native.Mathlib.Omega.{arith}
 use lib.Dec.{eqb}
 use borrow.Author.Tests.{eq-eqb, ne_eqb}
-use Rattle.clock.specs.Map.{if◌then◌else◌, mask, bit}
+use Rattle.clock.specs.Map.{when◌then◌else◌, mask, bit}
 
 -- what a test that passes at m adds
 abbrev worth : ℕ → Bool → ℕ
-worth m t = if t then 2 ^ m else 0
+worth m t = when t then 2 ^ m else 0
 
 worth_double : (m : ℕ) (t : Bool) → worth (suc m) t ≡ 2 * worth m t
 worth_double m true = let e : 2 ^ suc m ≡ 2 * 2 ^ m = omega arith in e

@@ -6,7 +6,7 @@ use Prim.Native.Nat.{ℕ, ◌+◌, ◌*◌, ◌^◌, ◌≤◌, ◌<◌}
 use native.Mathlib.Omega.{arith}
 use borrow.Author.Tests.{lt-ltb, le-ltb}
 use Rattle.clock.specs.declared.Compared.TheVariants.{Within, Beyond}
-use Rattle.clock.specs.Map.{if◌then◌else◌, any, least, mask}
+use Rattle.clock.specs.Map.{when◌then◌else◌, any, least, mask}
 use Rattle.clock.specs.Vector.{Vector, beyond}
 use Rattle.clock.specs.Clock.{lowest_beyond, compare}
 use Rattle.clock.proofs.Maps.{eq?}
@@ -80,7 +80,7 @@ module _ (v w : Vector) where
   unfolding compare
   found_within = go (any 8 (beyond v w))
     where
-      go : (t : Bool) → (if t then lowest_beyond v w else Within) ≡ Within → t ≡ false
+      go : (t : Bool) → (when t then lowest_beyond v w else Within) ≡ Within → t ≡ false
       go true e = let z : ◌≡◌ {A = ℕ} 0 1 = cc in absurd (omega arith)
       go false e = refl
 
@@ -89,7 +89,7 @@ module _ (v w : Vector) where
   unfolding compare
   found_beyond j x b = go (any 8 (beyond v w))
     where
-      go : (t : Bool) → (if t then lowest_beyond v w else Within) ≡ Beyond j x b
+      go : (t : Bool) → (when t then lowest_beyond v w else Within) ≡ Beyond j x b
           → (t ≡ true) × (j ≡ least 8 (beyond v w)) × (x ≡ v (least 8 (beyond v w))) × (b ≡ mask 8 (beyond v w))
       go true e = (refl, cc, cc, cc)
       go false e = let z : ◌≡◌ {A = ℕ} 0 1 = cc in absurd (omega arith)

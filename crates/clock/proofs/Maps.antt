@@ -6,7 +6,7 @@ use Prim.Native.Nat.{ℕ, ◌≤◌, ◌<◌}
 use native.Mathlib.Omega.{arith}
 use lib.Dec.{eqb, leb}
 use borrow.Author.Tests.{eqb-true, eqb-false, eq-eqb, ne_eqb, leb-true, leb-false}
-use Rattle.clock.specs.Map.{if◌then◌else◌, ◌⟨◌≔◌⟩, ◌⟨◌⟩⟨◌≔◌⟩}
+use Rattle.clock.specs.Map.{when◌then◌else◌, ◌⟨◌≔◌⟩, ◌⟨◌⟩⟨◌≔◌⟩}
 
 -- a test never comes out both ways
 pub both : {A : Type 0} {t : Bool} → t ≡ true → t ≡ false → A
@@ -17,7 +17,7 @@ true_or_false true = inl refl
 true_or_false false = inr refl
 
 -- what holds on both ways of a test holds of the choice
-pub choice {ℓ κ} : {A : Type ℓ} (t : Bool) (P : A → Type κ) {a b : A} → (t ≡ true → P a) → (t ≡ false → P b) → P (if t then a else b)
+pub choice {ℓ κ} : {A : Type ℓ} (t : Bool) (P : A → Type κ) {a b : A} → (t ≡ true → P a) → (t ≡ false → P b) → P (when t then a else b)
 choice true P f g = f refl
 choice false P f g = g refl
 
@@ -38,7 +38,7 @@ module _ {ℓ} {A : Type ℓ} (f : ℕ → A) (i : ℕ) (a : A) where
   pub at_twice : (b : A) → f ⟨ i ≔ a ⟩ ⟨ i ≔ b ⟩ ≡ f ⟨ i ≔ b ⟩
   at_twice b = fun_ext λ j. go j (eqb i j)
     where
-      go : (j : ℕ) (t : Bool) → (if t then b else if t then a else f j) ≡ (if t then b else f j)
+      go : (j : ℕ) (t : Bool) → (when t then b else when t then a else f j) ≡ (when t then b else f j)
       go j true = refl
       go j false = refl
 
@@ -70,7 +70,7 @@ pub related {ℓ} : {A : Type 0} {B : Type ℓ} (R : A → B → Type 0) (f : �
     → R ((f ⟨ i ≔ a ⟩) j) ((g ⟨ i ≔ b ⟩) j)
 related R f g i a b j p q = go (eqb i j)
   where
-    go : (t : Bool) → R (if t then a else f j) (if t then b else g j)
+    go : (t : Bool) → R (when t then a else f j) (when t then b else g j)
     go true = p
     go false = q
 
@@ -78,6 +78,6 @@ pub related₂ {ℓ} : {A : Type 0} {B : Type ℓ} (R : A → B → Type 0) (f :
     → R a b → R (f i' j') (g i' j') → R ((f ⟨ i ⟩⟨ j ≔ a ⟩) i' j') ((g ⟨ i ⟩⟨ j ≔ b ⟩) i' j')
 related₂ R f g i j a b i' j' p q = go (eqb i i') refl
   where
-    go : (t : Bool) → eqb i i' ≡ t → R ((if t then f i ⟨ j ≔ a ⟩ else f i') j') ((if t then g i ⟨ j ≔ b ⟩ else g i') j')
+    go : (t : Bool) → eqb i i' ≡ t → R ((when t then f i ⟨ j ≔ a ⟩ else f i') j') ((when t then g i ⟨ j ≔ b ⟩ else g i') j')
     go true e = related R (f i) (g i) j a b j' p (subst (λ (z : ℕ). R (f z j') (g z j')) (sym (eqb-true i i' e)) q)
     go false e = q

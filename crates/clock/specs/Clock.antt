@@ -3,7 +3,7 @@ use Rattle.std.specs.Prelude.{List, ℕ, get_or}
 use Rattle.clock.specs.declared.Clock.{Clock}
 use Rattle.clock.specs.declared.Compared.{Compared}
 use Rattle.clock.specs.declared.Compared.TheVariants.{Within, Beyond}
-use Rattle.clock.specs.Map.{if◌then◌else◌, any, least, mask}
+use Rattle.clock.specs.Map.{when◌then◌else◌, any, least, mask}
 use Rattle.clock.specs.Vector.{Vector, beyond}
 
 -- an array as the map of its places, 0 past its end
@@ -18,4 +18,4 @@ abbrev pub lowest_beyond : Vector → Vector → Compared
 lowest_beyond v w = Beyond (least 8 (beyond v w)) (v (least 8 (beyond v w))) (mask 8 (beyond v w))
 
 unfoldable pub compare : Vector → Vector → Compared
-compare v w = if any 8 (beyond v w) then lowest_beyond v w else Within
+compare v w = when any 8 (beyond v w) then lowest_beyond v w else Within

@@ -1,16 +1,18 @@
 // A clock vector by value: for each of eight sites the greatest clock number seen.
+#![tactic(auto)]
+
 ghost use Rattle.std.specs.Prelude.{◌≡◌, ◌<◌, max};
 ghost use Rattle.clock.specs.Vector.{zeros, join, note, rank};
 ghost use Rattle.clock.specs.Clock.{columns, compare};
 
-#[derive(Drop)]
+#[derive(Clone, Copy)]
 pub struct Clock {
     pub col: [u16; 8],
 }
 
 // Whether a vector is within another in every column, else its lowest column that is beyond, with its number,
 // and the mask of all columns that are.
-#[derive(Drop)]
+#[derive(Clone, Copy)]
 pub enum Compared {
     Within,
     Beyond {

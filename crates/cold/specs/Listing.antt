@@ -12,7 +12,7 @@ use Rattle.answers.specs.Answers.{numbers_of}
 abbrev pub listed : Answer → (t list : List ℕ) → Listed
 listed r t l = record { answer = numbers_of r; bytes = t; list = l }
 
--- a cold list answers and leaves in both buffers what `serve-list` says
+-- a cold list answers and leaves in both buffers what `serve_list` says
 abbrev pub Promise : (t list : List ℕ) → (s hour threshold : ℕ) → Listed → Type 0
 Promise t l s hour T o = o ≡ serve_list t l s hour T
 

@@ -1,4 +1,6 @@
 // The cold list over a lent buffer of any length.
+#![tactic(auto)]
+
 ghost use Rattle.std.specs.Prelude.{◌≡◌, ℕ, suc, ◌+◌, ◌<◌, ◌≤◌, [], length};
 ghost use Rattle.layout.specs.State.{state_of, table};
 ghost use Rattle.layout.specs.Records.{entry_of};
@@ -15,7 +17,7 @@ use answers::{Answer, Refusal};
 use layout::Record;
 
 // What the cold list makes of a key.
-#[derive(Drop)]
+#[derive(Clone, Copy)]
 pub enum Kind {
     Never,
     Malformed,
@@ -74,7 +76,7 @@ fn kind_at(e: Record, hour: u16, threshold: u16) -> Kind
 }
 
 // Keys listed, clocks ahead and malformed values.
-#[derive(Drop)]
+#[derive(Clone, Copy)]
 pub struct Counts {
     pub listed: usize,
     pub ahead: usize,

@@ -1,4 +1,6 @@
 // Deliver over a lent buffer of any length, and one delivery attempted, as drain does it.
+#![tactic(auto)]
+
 ghost use Rattle.std.specs.Prelude.{◌≡◌, ◌<◌, length};
 ghost use Rattle.clock.specs.Clock.{columns, compare};
 ghost use Rattle.layout.specs.State.{state_of, table};

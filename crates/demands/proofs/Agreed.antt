@@ -4,7 +4,7 @@ use mathlib.Core.List.{List, [], ◌∷◌}
 use mathlib.Core.Logic.{⊎_elim}
 use Prim.Native.Nat.{ℕ, zero, suc}
 use lib.Dec.{eqb}
-use Rattle.clock.specs.Map.{if◌then◌else◌}
+use Rattle.clock.specs.Map.{when◌then◌else◌}
 use Rattle.clock.proofs.Maps.{eq?}
 use Rattle.layout.specs.State.{State, state_of, bytes_of}
 use Rattle.layout.specs.Ranges.{Fits}
@@ -55,7 +55,7 @@ module _ {S T : State} (G : Agree S T) where
   same_events (Deliver s o) a h = refl
   same_events (Drain s b) a h = rw (same_made G s b)
   same_events (Cold s now U m) a h =
-      ap (λ (l : History). if eqb a.code 0 then l else h) (ap (λ (m : ℕ). looked T s m h) (same_table G).keys ∙ same_looked s S.k h)
+      ap (λ (l : History). when eqb a.code 0 then l else h) (ap (λ (m : ℕ). looked T s m h) (same_table G).keys ∙ same_looked s S.k h)
   same_events (Touch s x now u r) a h = rw (same_found s x)
   same_events (Look s x) a h = refl
   same_events (Adopt s x o c) a h = refl

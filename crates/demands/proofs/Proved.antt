@@ -40,11 +40,11 @@ module _ (E : Engine) (L : FitsEngine E) (t : List ℕ) (b : Bytes t) (c : Call)
   answered_refused h =
       let f = first (asks t c) in
       let code = beside_code (state_of t) c f in
-      let not-clear : Clear (asks t c) → ⊥ = λ g. h ((first_clear (asks t c) (asks_proper t c).0).1 g) in
+      let not_clear : Clear (asks t c) → ⊥ = λ g. h ((first_clear (asks t c) (asks_proper t c).0).1 g) in
       record {
         given = λ e z y. Iff.trans ((λ q. sym code ∙ q), λ q. code ∙ q) (first_given (asks t c) e z);
-        accepted = ((λ q. absurd (h (sym code ∙ q))), λ p. absurd (not-clear p.0));
-        spent = ((λ q. absurd (first_avoids 11 (asks t c) (omega arith) (asks_proper t c).1 (sym code ∙ q))), λ p. absurd (not-clear p.0));
+        accepted = ((λ q. absurd (h (sym code ∙ q))), λ p. absurd (not_clear p.0));
+        spent = ((λ q. absurd (first_avoids 11 (asks t c) (omega arith) (asks_proper t c).1 (sym code ∙ q))), λ p. absurd (not_clear p.0));
         keeps = λ z y. refl;
         zeros = λ e z y x q. let w : f ≡ e = sym code ∙ q in rw w (beside_zeros (state_of t) c e y);
         delivered = λ s d e. subst (λ (c : Call). Delivered E s t (beside (state_of t) c f).clock t) (sym e) (undelivered s d f);

@@ -13,7 +13,7 @@ by_hand =
     get 2 1 (wrote 7 0 1) ∷ update 2 1 1 2 9 ∷ update 2 0 1 1 7
     ∷ put 1 2 9 1 ∷ get 1 1 (wrote 7 0 1) ∷ update 1 0 1 1 7 ∷ put 0 1 7 1 ∷ []
 
--- 1 looks at 0's put and then puts, and its put is delivered to 2: `looked-at` (crates/causal/specs/Anomalies)
+-- 1 looks at 0's put and then puts, and its put is delivered to 2: `looked_at` (crates/causal/specs/Anomalies)
 unfoldable pub looking : List Call
 looking = Put 0 1 7 ∷ Deliver 1 0 ∷ Look 1 1 ∷ Put 1 2 9 ∷ Deliver 2 1 ∷ []
 
@@ -24,7 +24,7 @@ adopting = Put 0 1 7 ∷ Deliver 1 0 ∷ Look 1 1 ∷ Adopt 1 1 0 1 ∷ Put 1 2 
 unfoldable pub adopted : History
 adopted = put 1 2 9 1 ∷ adopt 1 1 (wrote 7 0 1) ∷ look 1 1 (wrote 7 0 1) ∷ update 1 0 1 1 7 ∷ put 0 1 7 1 ∷ []
 
--- case 13 of document 01, and a get at each site: `one-winner` (crates/causal/specs/Anomalies)
+-- case 13 of document 01, and a get at each site: `one_winner` (crates/causal/specs/Anomalies)
 unfoldable pub winning : List Call
 winning = Put 0 0 5 ∷ Put 1 0 6 ∷ Deliver 0 1 ∷ Deliver 1 0 ∷ Get 1 0 ∷ Get 0 0 ∷ []
 

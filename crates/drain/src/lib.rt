@@ -1,4 +1,6 @@
 // Drain: deliveries to a site until a pass delivers nothing, with a budget of tries.
+#![tactic(auto)]
+
 ghost use Rattle.std.specs.Prelude.{◌≡◌, ◌≤◌, ◌<◌, ◌+◌};
 ghost use Rattle.layout.specs.State.{state_of};
 ghost use Rattle.rules.specs.Drain.{skip, turn, drain};
@@ -9,7 +11,7 @@ ghost use Rattle.drain.specs.Turns.{turn_of, Drains};
 use answers::{Answer, Engine, Refusal};
 
 // Where a try is due, in a pass that has delivered or not; from n on the drain is at its end.
-#[derive(Drop)]
+#[derive(Clone, Copy)]
 pub struct Turn {
     pub origin: usize,
     pub delivered: bool,

@@ -1,8 +1,7 @@
 // The cold list as a C program asks for it: with a lent list of 64 bytes beside the table and the reply.
 ghost use Rattle.both.specs.ColdHost.{left, Promise};
 
-#[unsafe(no_mangle)]
-pub extern "C" fn fc_cold(
+pub fn fc_cold(
     site: u64,
     hour: u64,
     threshold: u64,

@@ -1,5 +1,7 @@
 // The calls as a C program makes them: with numbers, the table's bytes and a reply of 12 bytes. Host numbers are
 // 64 bits wide, so that none is cut on the way in; the value is 32.
+#![tactic(auto)]
+
 ghost use Rattle.std.specs.Prelude.{min};
 ghost use Rattle.rules.specs.Calls.{Open, Put, Get, Deliver, Drain, Touch, Look, Adopt, Retire};
 ghost use Rattle.host.specs.Host.{left, Promise, most_tries};
@@ -9,43 +11,37 @@ use answers::Engine;
 pub mod cold_list;
 pub mod short_lists;
 
-#[unsafe(no_mangle)]
-pub extern "C" fn fc_open(sites: u64, keys: u64, table: &mut [u8], reply: &mut [u8]) -> u32
+pub fn fc_open(sites: u64, keys: u64, table: &mut [u8], reply: &mut [u8]) -> u32
     ensures { Promise table.old reply.old (Open sites keys) (left result table.new reply.new) }
 {
     both::open(sites, keys, table, reply)
 }
 
-#[unsafe(no_mangle)]
-pub extern "C" fn fc_put(site: u64, key: u64, value: u32, table: &mut [u8], reply: &mut [u8]) -> u32
+pub fn fc_put(site: u64, key: u64, value: u32, table: &mut [u8], reply: &mut [u8]) -> u32
     ensures { Promise table.old reply.old (Put site key value) (left result table.new reply.new) }
 {
     host::put(site, key, value, table, reply, Engine::Ranked)
 }
 
-#[unsafe(no_mangle)]
-pub extern "C" fn fc_get(site: u64, key: u64, table: &mut [u8], reply: &mut [u8]) -> u32
+pub fn fc_get(site: u64, key: u64, table: &mut [u8], reply: &mut [u8]) -> u32
     ensures { Promise table.old reply.old (Get site key) (left result table.new reply.new) }
 {
     host::get(site, key, table, reply, Engine::Ranked)
 }
 
-#[unsafe(no_mangle)]
-pub extern "C" fn fc_deliver(site: u64, origin: u64, table: &mut [u8], reply: &mut [u8]) -> u32
+pub fn fc_deliver(site: u64, origin: u64, table: &mut [u8], reply: &mut [u8]) -> u32
     ensures { Promise table.old reply.old (Deliver site origin) (left result table.new reply.new) }
 {
     host::deliver(site, origin, table, reply, Engine::Ranked)
 }
 
-#[unsafe(no_mangle)]
-pub extern "C" fn fc_drain(site: u64, budget: u64, table: &mut [u8], reply: &mut [u8]) -> u32
+pub fn fc_drain(site: u64, budget: u64, table: &mut [u8], reply: &mut [u8]) -> u32
     ensures { Promise table.old reply.old (Drain site (min budget most_tries)) (left result table.new reply.new) }
 {
     host::drain(site, budget, table, reply, Engine::Ranked)
 }
 
-#[unsafe(no_mangle)]
-pub extern "C" fn fc_touch(
+pub fn fc_touch(
     site: u64,
     key: u64,
     hour: u64,
@@ -59,15 +55,13 @@ pub extern "C" fn fc_touch(
     host::touch(site, key, hour, toucher, tier, table, reply, Engine::Ranked)
 }
 
-#[unsafe(no_mangle)]
-pub extern "C" fn fc_look(site: u64, key: u64, table: &mut [u8], reply: &mut [u8]) -> u32
+pub fn fc_look(site: u64, key: u64, table: &mut [u8], reply: &mut [u8]) -> u32
     ensures { Promise table.old reply.old (Look site key) (left result table.new reply.new) }
 {
     both::look(site, key, table, reply)
 }
 
-#[unsafe(no_mangle)]
-pub extern "C" fn fc_adopt(
+pub fn fc_adopt(
     site: u64,
     key: u64,
     origin: u64,
@@ -80,8 +74,7 @@ pub extern "C" fn fc_adopt(
     host::adopt(site, key, origin, clock, table, reply, Engine::Ranked)
 }
 
-#[unsafe(no_mangle)]
-pub extern "C" fn fc_retire(site: u64, table: &mut [u8], reply: &mut [u8]) -> u32
+pub fn fc_retire(site: u64, table: &mut [u8], reply: &mut [u8]) -> u32
     ensures { Promise table.old reply.old (Retire site) (left result table.new reply.new) }
 {
     both::retire(site, table, reply)

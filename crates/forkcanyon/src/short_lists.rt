@@ -7,28 +7,19 @@ ghost use Rattle.forkcanyon.specs.ShortHost.{Promise};
 
 use answers::Engine;
 
-#[unsafe(no_mangle)]
-pub extern "C" fn fc_short_put(
-    site: u64,
-    key: u64,
-    value: u32,
-    table: &mut [u8],
-    reply: &mut [u8],
-) -> u32
+pub fn fc_short_put(site: u64, key: u64, value: u32, table: &mut [u8], reply: &mut [u8]) -> u32
     ensures { Promise table.old reply.old (Put site key value) (left result table.new reply.new) }
 {
     host::put(site, key, value, table, reply, Engine::Short)
 }
 
-#[unsafe(no_mangle)]
-pub extern "C" fn fc_short_get(site: u64, key: u64, table: &mut [u8], reply: &mut [u8]) -> u32
+pub fn fc_short_get(site: u64, key: u64, table: &mut [u8], reply: &mut [u8]) -> u32
     ensures { Promise table.old reply.old (Get site key) (left result table.new reply.new) }
 {
     host::get(site, key, table, reply, Engine::Short)
 }
 
-#[unsafe(no_mangle)]
-pub extern "C" fn fc_short_adopt(
+pub fn fc_short_adopt(
     site: u64,
     key: u64,
     origin: u64,
@@ -41,8 +32,7 @@ pub extern "C" fn fc_short_adopt(
     host::adopt(site, key, origin, clock, table, reply, Engine::Short)
 }
 
-#[unsafe(no_mangle)]
-pub extern "C" fn fc_short_touch(
+pub fn fc_short_touch(
     site: u64,
     key: u64,
     hour: u64,
@@ -56,20 +46,13 @@ pub extern "C" fn fc_short_touch(
     host::touch(site, key, hour, toucher, tier, table, reply, Engine::Short)
 }
 
-#[unsafe(no_mangle)]
-pub extern "C" fn fc_short_deliver(
-    site: u64,
-    origin: u64,
-    table: &mut [u8],
-    reply: &mut [u8],
-) -> u32
+pub fn fc_short_deliver(site: u64, origin: u64, table: &mut [u8], reply: &mut [u8]) -> u32
     ensures { Promise table.old reply.old (Deliver site origin) (left result table.new reply.new) }
 {
     host::deliver(site, origin, table, reply, Engine::Short)
 }
 
-#[unsafe(no_mangle)]
-pub extern "C" fn fc_short_drain(site: u64, budget: u64, table: &mut [u8], reply: &mut [u8]) -> u32
+pub fn fc_short_drain(site: u64, budget: u64, table: &mut [u8], reply: &mut [u8]) -> u32
     ensures { Promise table.old reply.old (Drain site (min budget most_tries)) (left result table.new reply.new) }
 {
     host::drain(site, budget, table, reply, Engine::Short)

@@ -1,6 +1,6 @@
 -- What a call from a C program returns, and what it leaves in the two buffers. Assumes nothing.
 use Rattle.std.specs.Prelude.{◌≡◌, true, List, [], ◌∷◌, ◌++◌, ℕ, eqb, length}
-use Rattle.clock.specs.Map.{if◌then◌else◌}
+use Rattle.clock.specs.Map.{when◌then◌else◌}
 use Rattle.rules.specs.Engine.{Engine, ours}
 use Rattle.rules.specs.Refusals.{Refusals, first}
 use Rattle.rules.specs.Calls.{Call, words, serve}
@@ -25,7 +25,7 @@ unsized words = first (words ++ ((1, true) ∷ []))
 unfoldable pub host : Engine → (table reply : List ℕ) → Call → Hosted
 host E t r c =
     let w = serve E t c in
-    if eqb (length r) reply_bytes then left w.answer.code w.bytes (reply_of w.answer) else left (unsized (words c)) t r
+    when eqb (length r) reply_bytes then left w.answer.code w.bytes (reply_of w.answer) else left (unsized (words c)) t r
 
 -- the promise of every call from a C program: it returns and leaves in both buffers what `host` says
 abbrev pub Promise : (table reply : List ℕ) → Call → Hosted → Type 0

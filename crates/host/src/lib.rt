@@ -1,5 +1,7 @@
 // The calls that take their engine, as a C program makes them: with numbers, the table's bytes and a reply of 12 bytes.
 // Host numbers are 64 bits wide, so that none is cut on the way in; the value is 32.
+#![tactic(auto)]
+
 ghost use Rattle.std.specs.Prelude.{◌≡◌, min};
 ghost use Rattle.rules.specs.Calls.{Put, Get, Deliver, Drain, Touch, Adopt};
 ghost use Rattle.host.specs.Host.{left, PromiseBy, most_tries};

@@ -12,7 +12,7 @@ use Rattle.clock.proofs.Maps.{choice, at_is, at_same, at_is₂, related, related
 use Rattle.layout.specs.State.{State, Entry, Update, with_depends, with_store, with_updates}
 use Rattle.rules.specs.Engine.{long, short}
 use Rattle.rules.specs.Live.{Live}
-use Rattle.rules.specs.Sound.{place, Retained, Sound, sound}
+use Rattle.rules.specs.Sound.{place, Retained, Sound}
 use Rattle.rules.specs.Steps as r
 use Rattle.rules.specs.Steps.{opened, next, waiting}
 use Rattle.laws.specs.Agreement.{SameEntry}

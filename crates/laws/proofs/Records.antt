@@ -8,7 +8,7 @@ use native.Mathlib.Omega.{arith}
 use lib.ListN.{length, get_or, replicate, length-append, length-replicate, get_or-append}
 use lib.Seq.{get_or_at}
 use borrow.Author.Tests.{lt-ltb, le-ltb, eq-eqb, ne_eqb, eqb-true}
-use Rattle.clock.specs.Map.{if◌then◌else◌}
+use Rattle.clock.specs.Map.{when◌then◌else◌}
 use Rattle.clock.specs.Lists.{◌∈◌}
 use Rattle.clock.proofs.Maps.{both, choice, true_or_false, eq?, le?}
 use Rattle.clock.proofs.Says.{Says, says_and, says_or, says_lt, says_eq}
@@ -187,16 +187,16 @@ unfolding chosen
 chosen_exactly p zero x = ((λ e. absurd e), λ q. absurd (omega (arith, q.0)))
 chosen_exactly p (suc m) x = go (p m) refl (chosen_exactly p m x)
   where
-    new : (b : Bool) → p m ≡ b → x ∈ (if b then m ∷ [] else []) → (x < suc m) × (p x ≡ true)
+    new : (b : Bool) → p m ≡ b → x ∈ (when b then m ∷ [] else []) → (x < suc m) × (p x ≡ true)
     new true e (inl k) = (omega (arith, k), ap p k ∙ e)
     new true e (inr k) = absurd k
     new false e k = absurd k
 
-    old : (b : Bool) → p m ≡ b → x ≡ m → p x ≡ true → x ∈ (if b then m ∷ [] else [])
+    old : (b : Bool) → p m ≡ b → x ≡ m → p x ≡ true → x ∈ (when b then m ∷ [] else [])
     old true e k z = inl k
     old false e k z = both (sym (ap p k) ∙ z) e
 
-    go : (b : Bool) → p m ≡ b → (x ∈ chosen p m) ↔ ((x < m) × (p x ≡ true)) → (x ∈ (chosen p m ++ (if b then m ∷ [] else []))) ↔ ((x < suc m) × (p x ≡ true))
+    go : (b : Bool) → p m ≡ b → (x ∈ chosen p m) ↔ ((x < m) × (p x ≡ true)) → (x ∈ (chosen p m ++ (when b then m ∷ [] else []))) ↔ ((x < suc m) × (p x ≡ true))
     go b e r = (
       (λ q. ⊎_elim (λ k. (omega (arith, (r.0 k).0), (r.0 k).1)) (new b e) ((in_append x (chosen p m) _).0 q)),
       λ q.

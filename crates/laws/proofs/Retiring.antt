@@ -2,21 +2,21 @@
 use mathlib.Core.Path.{◌≡◌, refl, sym, ap, subst, ◌∙◌}
 use mathlib.Core.Bool.{false}
 use mathlib.Core.List.{List, []}
-use mathlib.Core.Logic.{◌⊎◌, inl, inr, ⊎_elim, ◌≢◌}
+use mathlib.Core.Logic.{⊎_elim, ◌≢◌}
 use Prim.Native.Nat.{ℕ, ◌+◌, ◌^◌, ◌≤◌, ◌<◌}
 use native.Mathlib.Omega.{arith}
 use lib.Dec.{eqb}
 use lib.ListN.{get_or}
-use Rattle.clock.specs.Map.{if◌then◌else◌}
+use Rattle.clock.specs.Map.{when◌then◌else◌}
 use Rattle.layout.specs.State.{State, Update, state_of, bytes_of}
 use Rattle.layout.proofs.TableTrips.{bytes_back, retired_byte}
 use Rattle.rules.specs.Live.{Live, retiring}
 use Rattle.rules.specs.Sound.{place, Retained}
 use Rattle.rules.specs.Engine.{Engine}
-use Rattle.rules.specs.Steps.{Outcome, put, learn, get, look, deliver, touch, cold, retire}
+use Rattle.rules.specs.Steps.{put, learn, get, look, deliver, touch, cold, retire}
 use Rattle.rules.specs.Refusals.{first}
 use Rattle.rules.specs.Drain.{turn, drained, drain}
-use Rattle.rules.specs.Calls.{Call, Open, Put, Get, Deliver, Drain, Cold, Touch, Look, Adopt, Retire, refusals, step, run, Served, serve}
+use Rattle.rules.specs.Calls.{Call, Open, Put, Get, Deliver, Drain, Cold, Touch, Look, Adopt, Retire, refusals, step, Served}
 use Rattle.laws.specs.Retirement.{RetireRetires, RetireBytes, NothingLost}
 use Rattle.laws.proofs.Ready.{PutReady, put_ready, touch_ready, retire_ready}
 use Rattle.laws.proofs.Given.{run_accepted}
@@ -42,7 +42,7 @@ retire_bytes E t b s z i =
     let R = (retire_ready S s).0 f in
     let back = bytes_back t h b in
     let two : get_or t 2 0 ≡ S.retired = sym (ap (λ (u : List ℕ). get_or u 2 0) back) ∙ retired_byte S S.retired 2 (omega (arith, retire_byte S s R)) in
-    ap (λ (w : Served). get_or w.bytes i 0) (serve_step E t (Retire s) k) ∙ rw two (subst (λ (u : List ℕ). get_or (bytes_of (retiring S s)) i 0 ≡ (if eqb i 2 then S.retired + 2 ^ s else get_or u i 0)) back (retired_byte S (S.retired + 2 ^ s) i (retire_byte S s R)))
+    ap (λ (w : Served). get_or w.bytes i 0) (serve_step E t (Retire s) k) ∙ rw two (subst (λ (u : List ℕ). get_or (bytes_of (retiring S s)) i 0 ≡ (when eqb i 2 then S.retired + 2 ^ s else get_or u i 0)) back (retired_byte S (S.retired + 2 ^ s) i (retire_byte S s R)))
 
 -- ## Nothing is lost
 

@@ -7,7 +7,7 @@ use Prim.Native.Nat.{ℕ, zero, suc, ◌+◌, ◌-◌, ◌^◌, ◌≤◌, ◌<�
 use native.Mathlib.Omega.{arith}
 use native.Mathlib.Decide.{dec_le}
 use lib.Dec.{leb}
-use Rattle.clock.specs.Map.{if◌then◌else◌}
+use Rattle.clock.specs.Map.{when◌then◌else◌}
 use Rattle.clock.proofs.Says.{Says, denies_itself, says_eq, says_le, says_lt, says_and, says_or, says_not, says_unless, below_suc, says_all, says_any}
 use Rattle.layout.specs.State.{State, Entry}
 use Rattle.rules.specs.Live.{gone, Live}
@@ -81,17 +81,17 @@ holds_says S o c = says_and (says_eq _ c) (says_lt _ S.k)
 
 module _ (S : State) (o : ℕ) where
   abbrev counts : ℕ → ℕ
-  counts s = if gone S s then S.applied o o else S.applied s o
+  counts s = when gone S s then S.applied o o else S.applied s o
 
   lowest_le : (s : ℕ) → Live S s → lowest S o ≤ S.applied s o
   unfolding lowest
-  lowest_le s h = omega (arith, smallest_le S.n counts (S.applied o o) s h.0, ap (λ (t : Bool). if t then S.applied o o else S.applied s o) h.1)
+  lowest_le s h = omega (arith, smallest_le S.n counts (S.applied o o) s h.0, ap (λ (t : Bool). when t then S.applied o o else S.applied s o) h.1)
 
   lowest_is : (lowest S o ≡ S.applied o o) ⊎ ((s : ℕ) × Live S s × (lowest S o ≡ S.applied s o))
   unfolding lowest
   lowest_is = ⊎_elim inl (λ r. go r.0 r.1 (gone S r.0) refl r.2) (smallest_is S.n counts (S.applied o o))
     where
-      go : (s : ℕ) → s < S.n → (t : Bool) → gone S s ≡ t → lowest S o ≡ (if t then S.applied o o else S.applied s o)
+      go : (s : ℕ) → s < S.n → (t : Bool) → gone S s ≡ t → lowest S o ≡ (when t then S.applied o o else S.applied s o)
           → (lowest S o ≡ S.applied o o) ⊎ ((s : ℕ) × Live S s × (lowest S o ≡ S.applied s o))
       go s h true q e = inl e
       go s h false q e = inr (s, (h, q), e)

@@ -6,7 +6,7 @@ use Prim.Native.Nat.{ℕ, suc}
 use native.Mathlib.Omega.{arith}
 use lib.Dec.{eqb}
 use borrow.Author.Tests.{ne_eqb}
-use Rattle.clock.specs.Map.{if◌then◌else◌}
+use Rattle.clock.specs.Map.{when◌then◌else◌}
 use Rattle.clock.proofs.Maps.{both, at_is₂}
 use Rattle.clock.specs.Vector.{Vector}
 use Rattle.layout.specs.State.{State, Entry}
@@ -42,7 +42,7 @@ kind_recorded : (hour T : ℕ) (e : Entry) → recorded e ≡ true → kind hour
 unfolding kind
 kind_recorded hour T e = go (eqb e.clock 0) (well_formed e.value)
   where
-    go : (a b : Bool) → not a && b ≡ true → (if a then never else if b then aged T (age hour (hour_of e.value)) else malformed) ≡ aged T (age hour (hour_of e.value))
+    go : (a b : Bool) → not a && b ≡ true → (when a then never else when b then aged T (age hour (hour_of e.value)) else malformed) ≡ aged T (age hour (hour_of e.value))
     go true b q = both q refl
     go false true q = refl
     go false false q = both q refl

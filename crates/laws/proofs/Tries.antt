@@ -10,7 +10,7 @@ use native.Mathlib.Numerals.{add-one}
 use lib.Dec.{ltb}
 use lib.ListN.{length}
 use borrow.Author.Tests.{ltb-true, ltb-false}
-use Rattle.clock.specs.Map.{if◌then◌else◌, sum}
+use Rattle.clock.specs.Map.{when◌then◌else◌, sum}
 use Rattle.clock.proofs.Maps.{choice, at_is₂}
 use Rattle.layout.specs.State.{State}
 use Rattle.rules.specs.Engine.{Engine}
@@ -64,7 +64,7 @@ drain_rises E S s b m h = omega (arith, passes_rise E m s b S (turn S.n s 0 fals
 
 -- the origins from o on, leaving out s
 others : (n s o : ℕ) → ℕ
-others n s o = (n - o) - (if ltb s o then 0 else 1)
+others n s o = (n - o) - (when ltb s o then 0 else 1)
 
 others_is : (n s o : ℕ) → ((o ≤ s) × (others n s o ≡ n - o - 1)) ⊎ ((s < o) × (others n s o ≡ n - o))
 unfolding others
@@ -96,9 +96,9 @@ others_step n s o h k l =
 -- with p updates undelivered: the most tries from a turn on
 cost : (n s p : ℕ) → Turn → ℕ
 cost n s p end = 0
-cost n s p (due o d) = p + others n s o + (n - 1) * (if d then suc p else p)
+cost n s p (due o d) = p + others n s o + (n - 1) * (when d then suc p else p)
 
-turn_cost : (n s p o : ℕ) (d : Bool) → cost n s p (turn n s o d) ≤ p + others n s o + (n - 1) * (if d then suc p else p)
+turn_cost : (n s p o : ℕ) (d : Bool) → cost n s p (turn n s o d) ≤ p + others n s o + (n - 1) * (when d then suc p else p)
 unfolding cost
 turn_cost n s p o false =
     choice (ltb (skip s o) n) (λ T. cost n s p T ≤ p + others n s o + (n - 1) * p) (λ e. omega (arith, others_skip n s o)) (λ e. omega arith)

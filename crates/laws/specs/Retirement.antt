@@ -1,6 +1,6 @@
 -- What is proved of retirement, a sentence of request (g) each. Assumes nothing.
 use Rattle.std.specs.Prelude.{◌≡◌, List, ◌≢◌, ◌↔◌, ℕ, ◌+◌, ◌^◌, ◌<◌, eqb, get_or}
-use Rattle.clock.specs.Map.{if◌then◌else◌}
+use Rattle.clock.specs.Map.{when◌then◌else◌}
 use Rattle.layout.specs.State.{State}
 use Rattle.layout.specs.Ranges.{Bytes}
 use Rattle.rules.specs.Live.{Live, retiring}
@@ -22,7 +22,7 @@ RetireRetires =
 abbrev pub RetireBytes : Type 0
 RetireBytes =
     (E : Engine) (t : List ℕ) → Bytes t → (s : ℕ) → let r = serve E t (Retire s) in r.answer.code ≡ 0
-    → (i : ℕ) → get_or r.bytes i 0 ≡ (if eqb i 2 then get_or t 2 0 + 2 ^ s else get_or t i 0)
+    → (i : ℕ) → get_or r.bytes i 0 ≡ (when eqb i 2 then get_or t 2 0 + 2 ^ s else get_or t i 0)
 
 -- only opening and retiring change who is retired
 abbrev pub RetiredKept : Type 0

@@ -1,1 +1,2 @@
 // What is proved of the rules: theorems, no code.
+#![tactic(auto)]

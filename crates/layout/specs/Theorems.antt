@@ -1,6 +1,6 @@
 -- What is proved of the layout (crates/layout/proofs/TableTrips). Assumes nothing.
 use Rattle.std.specs.Prelude.{◌≡◌, List, ℕ, ◌<◌, eqb, length, get_or}
-use Rattle.clock.specs.Map.{if◌then◌else◌}
+use Rattle.clock.specs.Map.{when◌then◌else◌}
 use Rattle.layout.specs.State.{State, table, with_retired, state_of, bytes_of}
 use Rattle.layout.specs.Ranges.{Bytes, Fits}
 
@@ -20,4 +20,4 @@ BytesLong = (S : State) → Fits S → length (bytes_of S) ≡ table.width
 
 -- "Byte 2 holds the retired sites": other retired sites are another byte 2, and no other byte
 abbrev pub RetiredByte : Type 0
-RetiredByte = (S : State) (b i : ℕ) → b < 256 → get_or (bytes_of (with_retired S b)) i 0 ≡ (if eqb i 2 then b else get_or (bytes_of S) i 0)
+RetiredByte = (S : State) (b i : ℕ) → b < 256 → get_or (bytes_of (with_retired S b)) i 0 ≡ (when eqb i 2 then b else get_or (bytes_of S) i 0)

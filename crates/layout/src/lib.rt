@@ -1,4 +1,6 @@
 // The bytes of the table: numbers, clock vectors, entries and updates, read and written at their places.
+#![tactic(auto)]
+
 ghost use Rattle.std.specs.Prelude.{◌≡◌, ◌↔◌, ◌+◌, ◌*◌, ◌≤◌, ◌<◌, length};
 ghost use Rattle.clock.specs.Map.{◌⟨◌≔◌⟩, ◌⟨◌⟩⟨◌≔◌⟩};
 ghost use Rattle.clock.specs.Clock.{columns};
@@ -9,7 +11,7 @@ ghost use Rattle.layout.specs.Records.{pair, quad, word, applied_place, depends_
 use clock::Clock;
 
 // An entry or an update: tag is the entry's origin or the update's key, zero its zero byte.
-#[derive(Drop)]
+#[derive(Clone, Copy)]
 pub struct Record {
     pub value: u32,
     pub tag: u8,
@@ -18,7 +20,7 @@ pub struct Record {
     pub depends: Clock,
 }
 
-#[derive(Drop)]
+#[derive(Clone, Copy)]
 pub struct Header {
     pub n: u8,
     pub k: u8,

@@ -1,4 +1,6 @@
 // A get in two: look, and adopt of what was seen.
+#![tactic(auto)]
+
 ghost use Rattle.std.specs.Prelude.{◌≡◌, ◌≤◌, length};
 ghost use Rattle.layout.specs.State.{state_of, table};
 ghost use Rattle.rules.specs.Refusals.{first};

@@ -1,4 +1,6 @@
 // An answer as document 01's five numbers, for whoever writes them down.
+#![tactic(auto)]
+
 ghost use Rattle.std.specs.Prelude.{◌≡◌};
 ghost use Rattle.rules.specs.Steps.{refused};
 ghost use Rattle.answers.specs.Answers.{numbers_of};
@@ -6,7 +8,7 @@ ghost use Rattle.numbers.specs.Five.{five_of};
 
 use answers::Answer;
 
-#[derive(Drop)]
+#[derive(Clone, Copy)]
 pub struct Five {
     pub code: u8,
     pub key: u8,

@@ -1,4 +1,6 @@
 // Why a call is refused: the conditions that calls share, over a lent buffer, and those of get, put and deliver.
+#![tactic(auto)]
+
 ghost use Rattle.std.specs.Prelude.{◌≡◌, not, ◌&&◌, ◌+◌, ◌≤◌, ◌<◌, eqb, length};
 ghost use Rattle.layout.specs.State.{state_of, table};
 ghost use Rattle.rules.specs.Live.{gone};

@@ -1,6 +1,6 @@
 -- What a written reply stands for. Assumes nothing.
 use Rattle.std.specs.Prelude.{◌≡◌, List, ℕ, eqb}
-use Rattle.clock.specs.Map.{if◌then◌else◌}
+use Rattle.clock.specs.Map.{when◌then◌else◌}
 use Rattle.rules.specs.Steps.{Numbers}
 use Rattle.reply.specs.Reply.{reply_of}
 
@@ -11,4 +11,4 @@ pub record Replied (code : ℕ) (r : List ℕ) (a : Numbers) : Type 0 where
 
 -- a code, and 1 behind it where there is none
 abbrev pub behind : ℕ → ℕ
-behind e = if eqb e 0 then 1 else e
+behind e = when eqb e 0 then 1 else e

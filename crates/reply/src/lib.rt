@@ -1,4 +1,6 @@
 // The reply of a call from C: 12 bytes, and the code that comes back beside them.
+#![tactic(auto)]
+
 ghost use Rattle.std.specs.Prelude.{◌≡◌, length};
 ghost use Rattle.answers.specs.Answers.{code_of};
 ghost use Rattle.numbers.specs.Five.{five_of};

@@ -1,4 +1,6 @@
 // A site is retired: byte 2 gets its bit, and nothing else changes.
+#![tactic(auto)]
+
 ghost use Rattle.std.specs.Prelude.{◌≡◌, ◌+◌, ◌^◌, ◌<◌};
 ghost use Rattle.layout.specs.State.{state_of};
 ghost use Rattle.rules.specs.Live.{retiring};

@@ -4,7 +4,7 @@ use mathlib.Core.Bool.{Bool, true, false}
 use Prim.Native.Nat.{ℕ, max}
 use native.Mathlib.Omega.{arith}
 use lib.Dec.{eqb}
-use Rattle.clock.specs.Map.{if◌then◌else◌, ◌⟨◌≔◌⟩, ◌⟨◌⟩⟨◌≔◌⟩}
+use Rattle.clock.specs.Map.{when◌then◌else◌, ◌⟨◌≔◌⟩, ◌⟨◌⟩⟨◌≔◌⟩}
 use Rattle.clock.specs.Vector.{Vector, join}
 use Rattle.clock.proofs.Maps.{choice, at_same, at_twice, at_itself}
 use Rattle.layout.specs.State.{State, Entry, with_applied, with_depends, with_store, with_updates}
@@ -21,8 +21,8 @@ module _ (d : Vector) (e : Entry) where
   taken_again = fun_ext λ j. go j (eqb e.origin j)
     where
       go : (j : ℕ) (t : Bool)
-          → (if t then max (max (taken_on d e e.origin) (e.depends e.origin)) e.clock else max (if t then max (join d e.depends e.origin) e.clock else join d e.depends j) (e.depends j))
-          ≡ (if t then max (join d e.depends e.origin) e.clock else join d e.depends j)
+          → (when t then max (max (taken_on d e e.origin) (e.depends e.origin)) e.clock else max (when t then max (join d e.depends e.origin) e.clock else join d e.depends j) (e.depends j))
+          ≡ (when t then max (join d e.depends e.origin) e.clock else join d e.depends j)
       go j true = rw (at_same (join d e.depends) e.origin (max (join d e.depends e.origin) e.clock)) (omega arith)
       go j false = omega arith
 
@@ -43,7 +43,7 @@ module _ (S : State) (s : ℕ) where
     unfolding learn
     learn_sends = go (eqb e.clock 0)
       where
-        go : (t : Bool) → Row S s (if t then S.depends s else taken_on (S.depends s) e) (if t then S else with_depends S (S.depends ⟨ s ≔ taken_on (S.depends s) e ⟩))
+        go : (t : Bool) → Row S s (when t then S.depends s else taken_on (S.depends s) e) (when t then S else with_depends S (S.depends ⟨ s ≔ taken_on (S.depends s) e ⟩))
         go true = row_itself
         go false = refl
 

@@ -5,7 +5,7 @@ use mathlib.Core.Logic.{◌≢◌}
 use Prim.Native.Nat.{ℕ, ◌+◌}
 use native.Mathlib.Omega.{arith}
 use borrow.Author.Tests.{eq-eqb, ne_eqb}
-use Rattle.clock.specs.Map.{if◌then◌else◌, ◌⟨◌≔◌⟩, ◌⟨◌⟩⟨◌≔◌⟩}
+use Rattle.clock.specs.Map.{when◌then◌else◌, ◌⟨◌≔◌⟩, ◌⟨◌⟩⟨◌≔◌⟩}
 use Rattle.clock.specs.Vector.{Vector}
 use Rattle.clock.proofs.Maps.{at_same, at_twice}
 use Rattle.layout.specs.State.{State, Entry, Update, with_applied, with_depends, with_store, with_updates}
@@ -81,7 +81,7 @@ module _ (S : State) where
       ∙ (λ i.
       with_applied
       (with_store S
-      (if E.replaces (eu i) o (S.store s (eu i).key)
+      (when E.replaces (eu i) o (S.store s (eu i).key)
       then S.store ⟨ s ⟩⟨ (eu i).key ≔ record { value = (eu i).value; origin = o; zero = 0; clock = ec i; depends = (eu i).depends } ⟩
       else S.store))
       (S.applied ⟨ s ⟩⟨ o ≔ ec i ⟩))

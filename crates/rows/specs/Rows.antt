@@ -1,6 +1,6 @@
 -- What the code stores for a step: a row, an update, an entry, and what that relies on. Assumes nothing.
 use Rattle.std.specs.Prelude.{◌≡◌, List, ℕ, ◌<◌, length}
-use Rattle.clock.specs.Map.{if◌then◌else◌, ◌⟨◌≔◌⟩, ◌⟨◌⟩⟨◌≔◌⟩}
+use Rattle.clock.specs.Map.{when◌then◌else◌, ◌⟨◌≔◌⟩, ◌⟨◌⟩⟨◌≔◌⟩}
 use Rattle.clock.specs.Vector.{Vector}
 use Rattle.layout.specs.State.{State, Update, state_of, table, with_depends, with_store, with_updates}
 use Rattle.rules.specs.Sound.{place}
@@ -22,7 +22,7 @@ Stored S s x o v c d T = T ≡ with_store S (S.store ⟨ s ⟩⟨ x ≔ record {
 abbrev pub Replaced : Engine → State → (s o : ℕ) → Update → (c : ℕ) → State → Type 0
 Replaced E S s o u c T =
     let M = S.store ⟨ s ⟩⟨ u.key ≔ record { value = u.value; origin = o; zero = 0; clock = c; depends = u.depends } ⟩ in
-    T ≡ with_store S (if E.replaces u o (S.store s u.key) then M else S.store)
+    T ≡ with_store S (when E.replaces u o (S.store s u.key) then M else S.store)
 
 pub record EntryFits (t : List ℕ) (s x : ℕ) : Type 0 where
   pub size : length t ≡ table.width

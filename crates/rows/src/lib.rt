@@ -1,5 +1,7 @@
 // The dependency row of a site, and where the engines differ: what a get and a put make of it, with what a put is
 // stored, and which deliveries replace an entry.
+#![tactic(auto)]
+
 ghost use Rattle.std.specs.Prelude.{◌≡◌, ◌+◌, ◌≤◌, ◌<◌, length};
 ghost use Rattle.clock.specs.Vector.{join, note};
 ghost use Rattle.clock.specs.Clock.{columns};

@@ -1,6 +1,6 @@
 -- The calls on a table, and on a lent buffer of any length. Assumes nothing.
 use Rattle.std.specs.Prelude.{not, List, [], ◌∷◌, ◌++◌, ℕ, eqb, length}
-use Rattle.clock.specs.Map.{if◌then◌else◌}
+use Rattle.clock.specs.Map.{when◌then◌else◌}
 use Rattle.layout.specs.State.{State, table, state_of, bytes_of}
 use Rattle.rules.specs.Touch.{cold_list}
 use Rattle.rules.specs.Engine.{Engine, ours}
@@ -93,7 +93,7 @@ pub record Served : Type 0 where
 unfoldable pub serve : Engine → List ℕ → Call → Served
 serve E t c =
     let r = step E (state_of t) c in
-    if eqb (first (asks t c)) 0 then record { answer = r.answer; bytes = bytes_of r.after }
+    when eqb (first (asks t c)) 0 then record { answer = r.answer; bytes = bytes_of r.after }
     else record { answer = beside (state_of t) c (first (asks t c)); bytes = t }
 
 -- what a cold list answers, and the bytes it leaves in the table and in the lent list
@@ -106,4 +106,4 @@ pub record Listed : Type 0 where
 unfoldable pub serve_list : (t list : List ℕ) → (s now threshold : ℕ) → Listed
 serve_list t l s now T =
     let w = serve ours t (Cold s now T (length l)) in
-    record { answer = w.answer; bytes = w.bytes; list = if eqb w.answer.code 0 then cold_list (state_of t) s now T else l }
+    record { answer = w.answer; bytes = w.bytes; list = when eqb w.answer.code 0 then cold_list (state_of t) s now T else l }

@@ -1,6 +1,6 @@
 -- The starred cases of document 01 and its schedule, as one table of calls and what they show, with one proof. Assumes nothing.
 use Rattle.std.specs.Prelude.{◌≡◌, refl, Bool, ◌&&◌, List, [], ◌∷◌, ◌++◌, ℕ, eqb, replicate}
-use Rattle.clock.specs.Map.{if◌then◌else◌, all, any, least, mask, sum, bit}
+use Rattle.clock.specs.Map.{when◌then◌else◌, all, any, least, mask, sum, bit}
 use Rattle.clock.specs.Vector.{Vector}
 use Rattle.layout.specs.State.{State, Fields, Parts, of_entry, of_update, of_state}
 use Rattle.rules.specs.Sound.{sound, header, counted, blank, written, smallest, lowest, holds, retains}
@@ -56,7 +56,7 @@ same (n, (k, (r, (b, (a, (d, (e, u))))))) (n', (k', (r', (b', (a', (d', (e', u')
 
 -- 1 where no byte has changed
 abbrev pub unchanged : State → State → List ℕ
-unchanged S T = (if same (of_state S) (of_state T) then 1 else 0) ∷ []
+unchanged S T = (when same (of_state S) (of_state T) then 1 else 0) ∷ []
 
 abbrev pub fives : List Numbers
 fives =

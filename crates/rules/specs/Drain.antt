@@ -1,6 +1,6 @@
 -- Drain: passes over the origins by the budget left, its deliveries and tries counted on the way. Assumes nothing.
 use Rattle.std.specs.Prelude.{Bool, true, false, ◌&&◌, List, [], ◌∷◌, ℕ, zero, suc, eqb, ltb, length}
-use Rattle.clock.specs.Map.{if◌then◌else◌}
+use Rattle.clock.specs.Map.{when◌then◌else◌}
 use Rattle.layout.specs.State.{State}
 use Rattle.rules.specs.Engine.{Engine}
 use Rattle.rules.specs.Steps.{Numbers, Outcome, deliver}
@@ -17,13 +17,13 @@ pub data Turn : Type 0 where
 
 -- leaving out s
 abbrev pub skip : (s o : ℕ) → ℕ
-skip s o = if eqb o s then suc o else o
+skip s o = when eqb o s then suc o else o
 
 -- from origin o on: the next origin of this pass, else the first of a new one if this one delivered
 abbrev pub turn : (n s o : ℕ) → Bool → Turn
 turn n s o delivered =
-    if ltb (skip s o) n then due (skip s o) delivered
-    else if delivered && ltb (skip s 0) n then due (skip s 0) false
+    when ltb (skip s o) n then due (skip s o) delivered
+    else when delivered && ltb (skip s 0) n then due (skip s 0) false
     else end
 
 -- the answers of the deliveries made, the newest first, and the tries made

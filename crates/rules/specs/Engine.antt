@@ -1,6 +1,6 @@
 -- What engines differ in: what gets and puts make of dependency vectors, and which deliveries replace an entry. Assumes nothing.
 use Rattle.std.specs.Prelude.{Bool, true, ◌&&◌, ◌||◌, ℕ, eqb, ltb, leb}
-use Rattle.clock.specs.Map.{if◌then◌else◌}
+use Rattle.clock.specs.Map.{when◌then◌else◌}
 use Rattle.clock.specs.Vector.{Vector, zeros, join, note, rank}
 use Rattle.layout.specs.State.{Entry, Update}
 
@@ -37,7 +37,7 @@ outranks u o e =
 
 -- "A put now first takes on the dependence of the entry it overwrites, as a get would, and an own put is stored with its update's vector"
 abbrev pub ranked : Engine
-ranked = record { learned = taken_on; sent = λ d e. if eqb e.clock 0 then d else taken_on d e; left = note; own = λ v. v; replaces = outranks }
+ranked = record { learned = taken_on; sent = λ d e. when eqb e.clock 0 then d else taken_on d e; left = note; own = λ v. v; replaces = outranks }
 
 -- the engine of every call but the short ones
 abbrev pub ours : Engine

@@ -1,9 +1,8 @@
 -- Retirement, worked: who is refused, who counts no longer, and what stays. Assumes nothing.
-use Rattle.std.specs.Prelude.{refl, List, [], ◌∷◌, ◌++◌, ℕ, replicate}
-use Rattle.layout.specs.State.{State}
+use Rattle.std.specs.Prelude.{refl, List, [], ◌∷◌, ◌++◌, replicate}
 use Rattle.rules.specs.Engine.{ours}
 use Rattle.rules.specs.Steps.{refused, done, opened}
-use Rattle.rules.specs.Calls.{Call, Put, Get, Look, Adopt, Deliver, Drain, Cold, Touch, Retire}
+use Rattle.rules.specs.Calls.{Put, Get, Look, Adopt, Deliver, Drain, Cold, Touch, Retire}
 use Rattle.rules.specs.Cases.{rules, Case, case, case_of, fives, unchanged, Computed}
 
 unfoldable pub retirements : List Case

@@ -50,7 +50,7 @@ header n k b₂ b₃ =
     record { n = n; k = k; retired = b₂; byte3 = b₃; applied = S.applied; depends = S.depends; store = S.store; updates = S.updates }
 
 pub data Fact : Type 0 where
-  sites keys retired byte-3 most room blank origin clock applied held key : Fact
+  sites keys retired byte_3 most room blank origin clock applied held key : Fact
 
 -- the fact is broken where the code is 2
 unfoldable pub tables : Fact → List (State × ℕ)
@@ -62,7 +62,7 @@ tables retired =
     (header 3 2 0 0, 0) ∷ (header 3 2 2 0, 0) ∷ (header 3 2 6 0, 0) ∷ (header 3 2 1 0, 16) ∷ (header 3 2 7 0, 2) ∷ (header 3 2 8 0, 2) ∷ (header 3 2 10 0, 2)
     ∷ (header 8 2 254 0, 0) ∷ (header 8 2 255 0, 2) ∷ []
 -- byte 3 is zero
-tables byte-3 = (header 3 2 0 0, 0) ∷ (header 3 2 0 1, 2) ∷ []
+tables byte_3 = (header 3 2 0 0, 0) ∷ (header 3 2 0 1, 2) ∷ []
 -- applied[s][o] is at most applied[o][o], where s and o are below n
 tables most = (lagging 18, 0) ∷ (lagging 19, 2) ∷ (with_retired (lagging 19) 2, 2) ∷ (counts 2 1 19, 2) ∷ (counts 3 1 19, 0) ∷ (counts 2 3 19, 0) ∷ []
 -- and of a live site less than it by at most 16; at 17 clocks 2 and 18 would share a place
@@ -101,7 +101,7 @@ unfolding rules tables
 fact_by_fact sites = refl
 fact_by_fact keys = refl
 fact_by_fact retired = refl
-fact_by_fact byte-3 = refl
+fact_by_fact byte_3 = refl
 fact_by_fact most = refl
 fact_by_fact room = refl
 fact_by_fact blank = refl

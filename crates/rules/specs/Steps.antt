@@ -1,6 +1,6 @@
 -- What an accepted open, put, get, look, delivery, touch, cold list and retirement do to the table of an engine, and what they answer. Assumes nothing.
 use Rattle.std.specs.Prelude.{ℕ, suc, eqb, length}
-use Rattle.clock.specs.Map.{if◌then◌else◌, ◌⟨◌≔◌⟩, ◌⟨◌⟩⟨◌≔◌⟩}
+use Rattle.clock.specs.Map.{when◌then◌else◌, ◌⟨◌≔◌⟩, ◌⟨◌⟩⟨◌≔◌⟩}
 use Rattle.layout.specs.State.{State, Update, all_zero, with_counts, with_applied, with_depends, with_store, with_updates}
 use Rattle.rules.specs.Live.{retiring}
 use Rattle.rules.specs.Sound.{place}
@@ -49,7 +49,7 @@ put E S s x v =
 unfoldable pub learn : Engine → State → (s x : ℕ) → State
 learn E S s x =
     let e = S.store s x in
-    if eqb e.clock 0 then S else with_depends S (S.depends ⟨ s ≔ E.learned (S.depends s) e ⟩)
+    when eqb e.clock 0 then S else with_depends S (S.depends ⟨ s ≔ E.learned (S.depends s) e ⟩)
 
 -- what a get, a look and an adopt answer: "all three answer alike"
 abbrev pub seen : State → (s x : ℕ) → Numbers
@@ -73,7 +73,7 @@ deliver E S s o =
     let c = next S s o in
     let u = waiting S s o in
     let M = S.store ⟨ s ⟩⟨ u.key ≔ record { value = u.value; origin = o; zero = 0; clock = c; depends = u.depends } ⟩ in
-    let N = with_store S (if E.replaces u o (S.store s u.key) then M else S.store) in
+    let N = with_store S (when E.replaces u o (S.store s u.key) then M else S.store) in
     record { answer = done u.key o c u.value; after = with_applied N (S.applied ⟨ s ⟩⟨ o ≔ c ⟩) }
 
 -- "Touch gets a key and puts a record of the given toucher and tier"; "it answers as its put"

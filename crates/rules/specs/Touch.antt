@@ -1,6 +1,6 @@
 -- The touch record that a value is, its age, and which keys the cold list names. Assumes nothing.
 use Rattle.std.specs.Prelude.{Bool, not, ◌&&◌, ◌||◌, List, [], ◌∷◌, ◌++◌, ℕ, zero, suc, ◌+◌, ◌*◌, ◌-◌, ◌/◌, ◌%◌, ◌^◌, eqb, ltb, length, replicate}
-use Rattle.clock.specs.Map.{if◌then◌else◌}
+use Rattle.clock.specs.Map.{when◌then◌else◌}
 use Rattle.layout.specs.State.{State, Entry}
 
 -- "bits from the top: hour (16), toucher (3), tier (2), eleven zero bits"
@@ -25,7 +25,7 @@ abbrev pub keeps_hour : (toucher : ℕ) → Bool
 keeps_hour u = eqb u 1 || eqb u 2
 
 abbrev pub touched : (old now toucher tier : ℕ) → ℕ
-touched v now u r = touch_of (if keeps_hour u then hour_of v else now) u r
+touched v now u r = touch_of (when keeps_hour u then hour_of v else now) u r
 
 -- neither a "never-written key" nor a "malformed record"
 abbrev pub recorded : Entry → Bool
@@ -45,13 +45,13 @@ pub data Kind : Type 0 where
 
 -- "cold when its age is from the threshold T to 32,767; a greater age is a clock ahead"
 abbrev pub aged : (threshold age : ℕ) → Kind
-aged T a = if ltb 32767 a then ahead else if ltb a T then fresh else cold
+aged T a = when ltb 32767 a then ahead else when ltb a T then fresh else cold
 
 abbrev pub kind_of : (now threshold value : ℕ) → Kind
-kind_of now T v = if well_formed v then aged T (age now (hour_of v)) else malformed
+kind_of now T v = when well_formed v then aged T (age now (hour_of v)) else malformed
 
 unfoldable pub kind : (now threshold : ℕ) → Entry → Kind
-kind now T e = if eqb e.clock 0 then never else kind_of now T e.value
+kind now T e = when eqb e.clock 0 then never else kind_of now T e.value
 
 -- whether two kinds are the same
 abbrev pub tag : Kind → ℕ
@@ -67,7 +67,7 @@ is j i = eqb (tag j) (tag i)
 -- the numbers below m that pass a test, ascending
 unfoldable pub chosen : (ℕ → Bool) → ℕ → List ℕ
 chosen p zero = []
-chosen p (suc m) = chosen p m ++ (if p m then m ∷ [] else [])
+chosen p (suc m) = chosen p m ++ (when p m then m ∷ [] else [])
 
 -- the kinds of the keys at s, and the keys of one kind
 abbrev pub kinds_at : State → (s now threshold : ℕ) → ℕ → Kind

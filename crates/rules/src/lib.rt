@@ -1,1 +1,2 @@
 // The rules: definitions and worked cases, no code.
+#![tactic(auto)]

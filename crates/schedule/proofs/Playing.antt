@@ -6,7 +6,7 @@ use Prim.Native.Nat.{ℕ, ◌^◌, ◌<◌}
 use native.Mathlib.Omega.{arith}
 use lib.Dec.{eqb}
 use lib.ListN.{length, get_or, replicate, length-replicate}
-use Rattle.clock.specs.Map.{if◌then◌else◌}
+use Rattle.clock.specs.Map.{when◌then◌else◌}
 use Rattle.clock.proofs.Maps.{choice}
 use Rattle.layout.specs.State.{State, all_zero, state_of, table}
 use Rattle.layout.specs.Ranges.{Bytes}
@@ -42,7 +42,7 @@ module _ (t : List ℕ) (long : length t ≡ table.width) (bytes : Bytes t) wher
   unfolding played_on played
   played_is p h = go (unused_zero p)
     where
-      go : (b : Bool) → outcome (if b then serve ours t (call_of p) else record { answer = refused 12; bytes = t }) ≡ (if b then run ours (state_of t) (call_of p) else record { answer = refused 12; after = state_of t })
+      go : (b : Bool) → outcome (when b then serve ours t (call_of p) else record { answer = refused 12; bytes = t }) ≡ (when b then run ours (state_of t) (call_of p) else record { answer = refused 12; after = state_of t })
       go true = outcome_is ours ours_fits t (call_of p) long bytes (call_sized p h)
       go false = refl
 

@@ -1,6 +1,6 @@
 -- A schedule's step: its fields, the call it makes, and what it answers and leaves. Assumes nothing.
 use Rattle.std.specs.Prelude.{◌≡◌, Bool, ◌&&◌, List, ℕ, ◌/◌, ◌%◌, ◌^◌, eqb}
-use Rattle.clock.specs.Map.{if◌then◌else◌}
+use Rattle.clock.specs.Map.{when◌then◌else◌}
 use Rattle.layout.specs.Codec.{number_of}
 use Rattle.layout.specs.State.{State}
 use Rattle.rules.specs.Engine.{ours}
@@ -22,9 +22,9 @@ step_of l = fields_of (number_of step_bytes l)
 -- "0 put, 1 get, 2 deliver, 3 drain with budget 903"
 abbrev pub by_operation {ℓ} : {A : Type ℓ} → Step → (put get deliver drain : A) → A
 by_operation p put get deliver drain =
-    if eqb p.operation 0 then put
-    else if eqb p.operation 1 then get
-    else if eqb p.operation 2 then deliver
+    when eqb p.operation 0 then put
+    else when eqb p.operation 1 then get
+    else when eqb p.operation 2 then deliver
     else drain
 
 unfoldable pub call_of : Step → Call
@@ -40,11 +40,11 @@ unused_zero p = by_operation p (zero p.origin 0 0) (zero p.origin 0 p.value) (ze
 
 -- ".. else 12", which "comes before all others"; the table keeps all bytes
 unfoldable pub played : State → Step → Outcome
-played S p = if unused_zero p then run ours S (call_of p) else record { answer = refused 12; after = S }
+played S p = when unused_zero p then run ours S (call_of p) else record { answer = refused 12; after = S }
 
 -- the same on the bytes of a lent table, of any length
 unfoldable pub played_on : List ℕ → Step → Served
-played_on t p = if unused_zero p then serve ours t (call_of p) else record { answer = refused 12; bytes = t }
+played_on t p = when unused_zero p then serve ours t (call_of p) else record { answer = refused 12; bytes = t }
 
 -- the promise of `play`: on the bytes t a step answers and leaves that
 abbrev pub Promise : List ℕ → Step → Served → Type 0

@@ -1,4 +1,6 @@
 // A schedule: its steps decoded, and the text that a run of it prints.
+#![tactic(auto)]
+
 ghost use Rattle.std.specs.Prelude.{◌≡◌, [], ◌∷◌, ◌+◌, ◌^◌, ◌≤◌, ◌<◌, length, drop};
 ghost use Rattle.layout.specs.Codec.{number_of};
 ghost use Rattle.layout.specs.State.{state_of, table};
@@ -38,7 +40,7 @@ impl Schedule {
 }
 
 // A step of 48 bits.
-#[derive(Drop)]
+#[derive(Clone, Copy)]
 pub struct Step {
     pub operation: u8,
     pub site: u8,

@@ -1,7 +1,7 @@
 -- The parts of the soundness test, over numbers that the code has at hand. None need be believed: the check promises the
 -- rules' own `sound`, and these are only what its parts promise each other. Assumes nothing.
 use Rattle.std.specs.Prelude.{Bool, ◌&&◌, ◌||◌, ℕ, suc, ◌+◌, ◌-◌, ◌^◌, eqb, ltb, leb}
-use Rattle.clock.specs.Map.{if◌then◌else◌, all}
+use Rattle.clock.specs.Map.{when◌then◌else◌, all}
 use Rattle.clock.specs.Vector.{Vector}
 use Rattle.layout.specs.State.{State, Entry, Update}
 use Rattle.rules.specs.Live.{gone}
@@ -38,7 +38,7 @@ entries_in S n k = all n (λ s. all k (λ x. written_in n (S.applied s) (S.store
 
 -- applied[s][o] of a live site; a retired one counts as the origin itself
 abbrev pub count_in : State → (o s : ℕ) → ℕ
-count_in S o s = if gone S s then S.applied o o else S.applied s o
+count_in S o s = when gone S s then S.applied o o else S.applied s o
 
 -- the smallest of these over sites s below n
 abbrev pub lowest_in : State → (n o : ℕ) → ℕ

@@ -1,6 +1,8 @@
 // Whether a table is sound: the check may stop at the first fact that fails.
+#![tactic(auto)]
+
 ghost use Rattle.std.specs.Prelude.{◌≡◌, true, ◌&&◌, suc, ◌+◌, ◌^◌, ◌≤◌, ◌<◌, min, ltb, length};
-ghost use Rattle.clock.specs.Map.{if◌then◌else◌, bit};
+ghost use Rattle.clock.specs.Map.{when◌then◌else◌, bit};
 ghost use Rattle.layout.specs.State.{state_of, fields, to_entry, to_update, last_clock, table};
 ghost use Rattle.layout.specs.Records.{fields_at};
 ghost use Rattle.rules.specs.Sound.{sound, blank};
@@ -63,7 +65,7 @@ fn either(a: u64, b: u64) -> u64
 
 // What stands in entries of clock 0 where zeros belong: before the clock, and in the two halves of the vector. Three
 // numbers, since the compiler reads eight bytes in one step only where no others are mixed in.
-#[derive(Drop)]
+#[derive(Clone, Copy)]
 struct Stray {
     head: u64,
     left: u64,
@@ -202,7 +204,7 @@ fn lag_sound(t: &[u8], k: usize, o: usize, low: usize, top: usize) -> bool
 // A retired site counts as the origin itself.
 fn count(retired: u8, s: usize, here: usize, top: usize) -> usize
     requires { s < 8 }
-    ensures { result ≡ (if bit retired s then top else here) }
+    ensures { result ≡ (when bit retired s then top else here) }
 {
     if gone(retired, s) { top } else { here }
 }

@@ -1,4 +1,6 @@
 // Open, put and get over a lent buffer of any length.
+#![tactic(auto)]
+
 ghost use Rattle.std.specs.Prelude.{◌≡◌};
 ghost use Rattle.layout.specs.State.{state_of};
 ghost use Rattle.layout.specs.Records.{entry_of};

@@ -1,4 +1,6 @@
 // Touch records, and touch over a lent buffer of any length.
+#![tactic(auto)]
+
 ghost use Rattle.std.specs.Prelude.{◌≡◌, ◌<◌};
 ghost use Rattle.layout.specs.Records.{entry_of};
 ghost use Rattle.rules.specs.Touch.{hour_of, well_formed, keeps_hour, touch_of, touched};

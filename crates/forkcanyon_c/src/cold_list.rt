@@ -1,0 +1,16 @@
+// The cold list as a C program asks for it: with a lent list of 64 bytes beside the table and the reply.
+ghost use Rattle.both.specs.ColdHost.{left, Promise};
+
+#[unsafe(no_mangle)]
+pub extern "C" fn fc_cold(
+    site: u64,
+    hour: u64,
+    threshold: u64,
+    table: &mut [u8],
+    list: &mut [u8],
+    reply: &mut [u8],
+) -> u32
+    ensures { Promise table.old list.old reply.old site hour threshold (left result table.new list.new reply.new) }
+{
+    forkcanyon::cold_list::fc_cold(site, hour, threshold, table, list, reply)
+}
