@@ -4,33 +4,33 @@ use mathlib.Core.List.{List, [], ◌∷◌}
 use mathlib.Core.Bool.{Bool, true}
 use mathlib.Core.Logic.Iff
 use mathlib.Core.Logic.{◌↔◌, inl, inr, ⊎_elim, ◌≢◌}
-use Prim.Native.Nat.{ℕ, zero, suc, ◌≤◌, ◌<◌}
+use Prim.Native.Nat.{ℕ, suc, ◌≤◌, ◌<◌}
 use native.Mathlib.Omega.{arith}
 use lib.Dec.{eqb}
 use lib.ListN.{length}
 use borrow.Author.Tests.{eq-eqb, ne_eqb}
 use Rattle.clock.specs.Map.{when◌then◌else◌}
 use Rattle.clock.specs.Lists.{◌∈◌}
-use Rattle.clock.proofs.Maps.{eq?, true_or_false}
-use Rattle.layout.specs.State.{State, Entry, state_of, last_clock}
+use Rattle.clock.proofs.Maps.{true_or_false}
+use Rattle.layout.specs.State.{State, state_of, last_clock}
 use Rattle.layout.specs.Ranges.{Bytes}
 use Rattle.rules.specs.Engine.{Engine, long, short, ours}
 use Rattle.rules.specs.Live.{Live}
 use Rattle.rules.specs.Sound.{Sound}
-use Rattle.rules.specs.Steps.{Numbers, Outcome, refused, done}
+use Rattle.rules.specs.Steps.{Numbers, Outcome, refused}
 use Rattle.rules.specs.Refusals.{get_refusals}
-use Rattle.rules.specs.Calls.{Call, Open, Put, Get, Adopt, Deliver, Drain, Touch, Retire, refusals, asks, run, Served, serve}
+use Rattle.rules.specs.Calls.{Call, Put, Get, Adopt, Deliver, Drain, Touch, Retire, refusals, asks, Served, serve}
 use Rattle.laws.proofs.Ranks.{Under}
 use Rattle.laws.specs.Agreement.{SameTable, SameAnswer}
-use Rattle.causal.specs.World.{Rank, Answer, never, wrote, World, due, waiting, with_put, with_get, with_update, Replaces, Event, put, get, look, adopt, update, retire, Step, PUT, GET, LOOK, ADOPT, UPDATE, RETIRE, Run, more}
+use Rattle.causal.specs.World.{Rank, Answer, wrote, World, due, waiting, with_put, with_get, with_update, Replaces, Event, put, get, look, adopt, update, retire, Step, PUT, GET, LOOK, ADOPT, UPDATE, RETIRE, Run, more}
 use Rattle.causal.specs.History.{History, Write, Read, Reads, op, order, Ranks, lookup, Ranking, Ordered, Cause, direct}
-use Rattle.causal.specs.Refines.{Abstracts, answer, Follows, Refines, numbers, after_call, Causal}
+use Rattle.causal.specs.Refines.{Abstracts, Follows, Refines, numbers, after_call, Causal}
 use Rattle.causal.specs.Anomalies.{looked_at}
 use Rattle.causal.proofs.Updates.{clash}
 use Rattle.causal.proofs.Sites.{lookup_in}
 use Rattle.causal.proofs.Highest.{lookup_most}
 use Rattle.causal.proofs.Handed.{came, behind, arrived, stands, stands_before}
-use Rattle.demands.specs.Demands.{Demand1, Delivered, none, next, play}
+use Rattle.demands.specs.Demands.{Demand1, Delivered, none, next}
 use Rattle.demands.proofs.Drained.{same_bytes}
 use Rattle.claims.specs.Uses.{OfBuffer, Left, OfTable, OfHistory, OfBoth, Uses}
 use Rattle.claims.proofs.Proved.{claims}
