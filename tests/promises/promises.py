@@ -3,7 +3,7 @@ function that asks nothing of its caller and writes a lent buffer or has a call'
 
     Promise BUFFER.old.. (Call NUMBER..) (OUTCOME result BUFFER.new..)
 
-with the engine where it is given, every lent buffer, the constructor of the function's name with every number, and
+with the engine of the type parameter where there is one, every lent buffer, the constructor of the function's name with every number, and
 every lent buffer again, all in the order of the parameters; one that is only read is BUFFER.now in both places. A cold
 list has the numbers alone: its promise knows the call, since it alone lends a list.
 pinned.txt has the definitions that give these words their meaning.
@@ -28,27 +28,27 @@ OUTCOMES = {
     ("forkcanyon.specs.ShortHost", "Promise"): ("host.specs.Host", "left"),
     ("cold.specs.Listing", "Promise"): ("cold.specs.Listing", "listed"),
     ("both.specs.ColdHost", "Promise"): ("both.specs.ColdHost", "left"),
-    ("schedule.specs.Step", "Promise"): ("schedule.specs.Written", "answered"),
+    ("schedule.specs.Step", "Promise"): ("answers.specs.Answers", "served"),
 }
 WRITTEN = ("schedule.specs.Written", "Written")
 
 # The promise of the calls with short lists, by their names, and of no other.
 SHORT = ("forkcanyon.specs.ShortHost", "Promise")
 
-# A parameter that is no number of the call: the promise names it first.
-ENGINE = "Engine"
+# A type parameter that is the call's engine: the promise names it first.
+ENGINE = re.compile(r"<(\w+): Engine>")
 
-# The crate that exports the calls of another, each with its namesake's promise and in its namesake's row.
-NAMESAKES = {"forkcanyon_c": "forkcanyon"}
+# A lent buffer whose type says that it is a table, or a reply, of its size: what takes it asks that of its caller.
+SIZED = re.compile(r"&mut (?:Bytes\b|\[u8; Reply::BYTES\])")
 
 # What a promise says in place of the constructor with the numbers; of Written, the place and the text.
 SAID = {
     "host::drain": "(Drain site (min budget most_tries))",
-    "forkcanyon::fc_drain": "(Drain site (min budget most_tries))",
-    "forkcanyon::fc_short_drain": "(Drain site (min budget most_tries))",
+    "forkcanyon_c::fc_drain": "(Drain site (min budget most_tries))",
+    "forkcanyon_c::fc_short_drain": "(Drain site (min budget most_tries))",
     "cold::cold": "s hour threshold",
     "both::cold": "site hour threshold",
-    "forkcanyon::fc_cold": "site hour threshold",
+    "forkcanyon_c::fc_cold": "site hour threshold",
     "schedule::play": "p",
     "schedule::write_answer": "0 (line number (numbers_of a))",
     "schedule::write_listing": "0 (listing input.now)",
@@ -101,7 +101,7 @@ def constructor(name):
 
 
 def numbers_of(found):
-    return [each for each, width in found if not width.startswith("&") and width != ENGINE]
+    return [each for each, width in found if not width.startswith("&")]
 
 
 def expected(said, name, taken, promise):
@@ -110,7 +110,7 @@ def expected(said, name, taken, promise):
     lent = [each for each, width in found if width.startswith("&")]
     written = [each for each, width in found if re.match(r"&(?:'\w+ )?mut\b", width)]
     numbers = numbers_of(found)
-    engine = "".join(f" {each}" for each, width in found if width == ENGINE)
+    engine = f" {by[1]}.engine" if (by := ENGINE.match(taken)) else ""
     call = SAID.get(said) or f"({' '.join([constructor(name), *numbers])})"
     met = {each: f"{each}.old" if each in written else f"{each}.now" for each in lent}
     left = {each: f"{each}.new" if each in written else f"{each}.now" for each in lent}
@@ -126,7 +126,7 @@ def foreign(wanted, promise, taken, brought):
     if promise in OUTCOMES:
         home, outcome = OUTCOMES[promise]
         homes[outcome] = home
-    known = {"result", *(name for name, _ in parameters(taken)[0])}
+    known = {"result", *ENGINE.findall(taken), *(name for name, _ in parameters(taken)[0])}
     for word in re.findall(r"(?<![\w.])[A-Za-z]\w*", wanted):
         if word not in known:
             home = homes.get(word, CALLS)
@@ -165,7 +165,7 @@ def call_faults(said, exports, taken, ensures, text, proved):
 def function_faults(said, words, taken, clauses, text, proved):
     exports = exported(words)
     ensures = [clause for kind, clause in clauses if kind == "ensures"]
-    asks = len(ensures) < len(clauses)
+    asks = len(ensures) < len(clauses) or bool(SIZED.search(taken))
     if not ensures:
         yield "it has no ensures"
     if exports and asks:
@@ -191,8 +191,8 @@ def faults(root):
         text, crate = file.read_text(), file.relative_to(root / "crates").parts[0]
         for name, words, taken, clauses in functions(text):
             if exported(words) or re.search(r"\bpub\b", words):
-                row = f"{NAMESAKES.get(crate, crate)}::{name}"
-                yield from (f"{crate}::{name}: {each}" for each in function_faults(row, words, taken, clauses, text, proved))
+                said = f"{crate}::{name}"
+                yield from (f"{said}: {each}" for each in function_faults(said, words, taken, clauses, text, proved))
 
 
 if __name__ == "__main__":

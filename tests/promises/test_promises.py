@@ -66,12 +66,12 @@ pub extern "C" fn fc_drain(site: u64, budget: u64, t: &mut [u8]) -> u32
     0
 }}
 """
-TABLE = "`forkcanyon::fc_get` `forkcanyon::fc_drain`"
+TABLE = "`forkcanyon_c::fc_get` `forkcanyon_c::fc_drain`"
 
 MORE = ["more: it has no ensures", "more: docs/PROMISES.md has no row for it"]
 
 # A public function up to its promise, and the promise.
-HEAD = re.compile(r"(pub (?:extern \"C\" )?fn (\w+)\([^{]*?)(?:\s+ensures (?:\w+ )?\{ (?:Promise|PromiseBy|Written) .*)+")
+HEAD = re.compile(r"(pub (?:extern \"C\" )?fn (\w+)(?:<\w+: Engine>)?\([^{]*?)(?:\s+ensures (?:\w+ )?\{ (?:Promise|PromiseBy|Written) .*)+")
 
 
 def not_promised(name, call):
@@ -79,7 +79,7 @@ def not_promised(name, call):
 
 
 class Small(unittest.TestCase):
-    def of(self, code, specs=None, table=TABLE, pinned=PINNED, crate="forkcanyon"):
+    def of(self, code, specs=None, table=TABLE, pinned=PINNED, crate="forkcanyon_c"):
         with tempfile.TemporaryDirectory() as folder:
             root = Path(folder)
             files = {f"crates/{name}": text for name, text in {**SPECS, **(specs or {})}.items()}
@@ -88,7 +88,7 @@ class Small(unittest.TestCase):
             for name, text in files.items():
                 (root / name).parent.mkdir(parents=True, exist_ok=True)
                 (root / name).write_text(text)
-            return [fault.removeprefix("forkcanyon::") for fault in faults(root)]
+            return [fault.removeprefix("forkcanyon_c::") for fault in faults(root)]
 
     def edited(self, *changes, **others):
         """The faults of CODE with these changes, each made in one place at least."""
@@ -122,30 +122,35 @@ class Small(unittest.TestCase):
         for said in ["result ≡ 0", "(Promise a b c → ⊥)", "Written a b c", "left result t ≡ host t"]:
             self.assertEqual(self.edited((KEPT, f"    ensures {{ {said} }}\n")), [other])
         lent = CODE + "pub fn wipe(t: &mut [u8]) ensures { t.new ≡ [] } { }"
-        self.assertEqual(self.of(lent, table=TABLE + "`forkcanyon::wipe`"), [other.replace("fc_get", "wipe")])
+        self.assertEqual(self.of(lent, table=TABLE + "`forkcanyon_c::wipe`"), [other.replace("fc_get", "wipe")])
 
     def test_a_call_that_only_reads(self):
         lent = CODE + "pub fn get(t: &[u8], site: usize) -> u8 ensures { SAID } { 0 }"
         kept = "Promise t.now (Get site) (left result t.now)"
         specs = {"answers/specs/NoSecond.antt": "pub get_no_second : NoSecond\n"}
-        table = TABLE + "`forkcanyon::get`"
+        table = TABLE + "`forkcanyon_c::get`"
         self.assertEqual(self.of(lent.replace("SAID", kept), specs=specs, table=table), [])
         for said in ["result ≡ 0", kept.replace("t.now)", "t.new)"), kept.replace("t.now", "t.old")]:
             self.assertEqual(len(self.of(lent.replace("SAID", said), specs=specs, table=table)), 1, said)
         self.assertEqual(self.of(lent.replace("SAID", kept)), ["get: there is no theorem get_no_second", "get: docs/PROMISES.md has no row for it"])
 
     def test_a_call_with_its_engine(self):
-        kept = "PromiseBy engine t.old (Get site) (left result t.new)"
-        taken = CODE + "pub fn get(t: &mut [u8], site: usize, engine: Engine) -> u8 ensures { SAID } { 0 }"
-        found = lambda said: " ".join(self.of(taken.replace("SAID", said), table=TABLE + "`forkcanyon::get`"))
+        kept = "PromiseBy E.engine t.old (Get site) (left result t.new)"
+        taken = CODE + "pub fn get<E: Engine>(t: &mut [u8], site: usize) -> u8 ensures { SAID } { 0 }"
+        found = lambda said: " ".join(self.of(taken.replace("SAID", said), table=TABLE + "`forkcanyon_c::get`"))
         self.assertIn("not a promise that no second outcome is proved of", found(kept))
-        self.assertIn("its promise is not Promise engine t.old", found(kept.replace("PromiseBy engine", "Promise")))
+        self.assertIn("its promise is not Promise E.engine t.old", found(kept.replace("PromiseBy E.engine", "Promise")))
+
+    def test_a_buffer_of_its_size(self):
+        taken = CODE + "pub fn wipe(t: &mut Bytes) ensures { state_of t.new ≡ all_zero } { }"
+        self.assertEqual(self.of(taken), [])
+        self.assertEqual(len(self.of(taken.replace("Bytes", "[u8]"))), 2)
 
     def test_the_other_engine(self):
         name = "forkcanyon/specs/NoSecond.antt"
         words = {"forkcanyon/specs/ShortHost.antt": SPECS["host/specs/Host.antt"]}
         words[name] = SPECS[name] + "use Rattle.forkcanyon.specs.ShortHost.{Promise}\npub fc_short_get_no_second : NoSecond\n"
-        table, pinned = TABLE + "`forkcanyon::fc_short_get`", PINNED + PINNED.replace("host/specs/Host", "forkcanyon/specs/ShortHost")
+        table, pinned = TABLE + "`forkcanyon_c::fc_short_get`", PINNED + PINNED.replace("host/specs/Host", "forkcanyon/specs/ShortHost")
         short = CODE.partition("#[unsafe(no_mangle)]\npub extern \"C\" fn fc_drain")[0].replace("fc_get", "fc_short_get")
         self.assertEqual(self.of(short, words, table, pinned), ["fc_short_get: its promise is of our engine"])
         mine = "specs.Host.{left, most_tries};\nghost use Rattle.forkcanyon.specs.ShortHost.{Promise};"
@@ -154,10 +159,7 @@ class Small(unittest.TestCase):
         other = short.replace("fc_short_get", "fc_get")
         self.assertEqual(self.of(other, words, table, pinned), ["fc_get: its promise is of short lists"])
 
-    def test_the_crate_of_the_archive(self):
-        self.assertEqual(self.of(CODE, crate="forkcanyon_c"), [])
-        kept = self.of(CODE.replace(DRAIN, "(Drain site budget)"), crate="forkcanyon_c")
-        self.assertEqual(kept, [f"forkcanyon_c::{each}" for each in not_promised("fc_drain", DRAIN)])
+    def test_another_crate(self):
         self.assertIn("other::fc_get: docs/PROMISES.md has no row for it", self.of(CODE, crate="other"))
 
     def test_a_pinned_word_renamed(self):
@@ -189,7 +191,7 @@ class Small(unittest.TestCase):
         code = CODE.replace("Drain}", "Drain, Touch}") + '#[unsafe(no_mangle)] pub extern "C" fn fc_touch'
         taken = "(site: u64, hour: u64, t: &mut [u8], old: &[u8], list: &mut [u8]) -> u32 "
         words = {"forkcanyon/specs/More.antt": SPECS["forkcanyon/specs/NoSecond.antt"].replace("get", "touch")}
-        others = {"specs": words, "table": TABLE + "`forkcanyon::fc_touch`"}
+        others = {"specs": words, "table": TABLE + "`forkcanyon_c::fc_touch`"}
         self.assertEqual(self.of(code + taken + said, **others), [])
         for left in ["t.new list.new", "list.new old.now t.new"]:
             other = said.replace("t.new old.now list.new", left)
@@ -226,7 +228,7 @@ class Small(unittest.TestCase):
         name = "forkcanyon/specs/NoSecond.antt"
         without = {name: SPECS[name].replace("fc_get_no_second", "fc_put_no_second")}
         self.assertEqual(self.of(CODE, specs=without), ["fc_get: there is no theorem fc_get_no_second"])
-        rowless = TABLE.replace("`forkcanyon::fc_get`", "")
+        rowless = TABLE.replace("`forkcanyon_c::fc_get`", "")
         self.assertEqual(self.of(CODE, table=rowless), ["fc_get: docs/PROMISES.md has no row for it"])
 
 
@@ -238,11 +240,9 @@ class Here(unittest.TestCase):
             shutil.copytree(HERE / "docs", root / "docs")
             shutil.copytree(HERE / "tests" / "promises", root / "tests" / "promises")
             counts = {"table": 3, "look": 2, "deliver": 1, "retire": 1, "touch": 1, "cold": 1, "drain": 1}
-            counts |= {"host": 6, "both": 3, "forkcanyon": 9, "forkcanyon_c": 9, "schedule": 3}
+            counts |= {"host": 6, "both": 3, "forkcanyon_c": 9, "schedule": 3}
             files = {f"{crate}/src/lib.rt": calls for crate, calls in counts.items()}
-            files |= {"both/src/cold_list.rt": 1}
-            for crate in ("forkcanyon", "forkcanyon_c"):
-                files |= {f"{crate}/src/cold_list.rt": 1, f"{crate}/src/short_lists.rt": 6}
+            files |= {"both/src/cold_list.rt": 1, "forkcanyon_c/src/cold_list.rt": 1, "forkcanyon_c/src/short_lists.rt": 6}
             for name, calls in files.items():
                 file, crate = root / "crates" / name, name.split("/")[0]
                 kept = file.read_text()

@@ -1,10 +1,9 @@
 -- No second outcome: two outcomes that satisfy the promise in a call's `ensures` are equal, and one exists. Assumes nothing.
 use Rattle.std.specs.Prelude.{◌≡◌, refl, List, ℕ}
 use Rattle.std.proofs.Common.{sym, ◌∙◌}
-use Rattle.rules.specs.Engine.{ours}
+use Rattle.rules.specs.Engine.{Engine, ours}
 use Rattle.rules.specs.Calls.{Call, Open, Put, Get, Deliver, Drain, Touch, Look, Adopt, Retire, Served, serve}
-use Rattle.answers.specs.declared.Engine.{Engine}
-use Rattle.answers.specs.Answers.{engine_of, Promise, PromiseBy}
+use Rattle.answers.specs.Answers.{Promise, PromiseBy}
 
 abbrev pub NoSecond : Call → Type 0
 NoSecond c = (t : List ℕ) (w w' : Served) → Promise t c w → Promise t c w' → w ≡ w'
@@ -23,7 +22,7 @@ abbrev pub OneBy : Engine → Call → Type 0
 OneBy e c = (t : List ℕ) → (w : Served) × PromiseBy e t c w
 
 no_second_by : (e : Engine) (c : Call) → NoSecondBy e c × OneBy e c
-no_second_by e c = ((λ t w w' p q. p ∙ sym q), λ t. (serve (engine_of e) t c, refl))
+no_second_by e c = ((λ t w w' p q. p ∙ sym q), λ t. (serve e t c, refl))
 
 pub open_no_second : (n k : ℕ) → NoSecond (Open n k) × One (Open n k)
 open_no_second n k = no_second (Open n k)

@@ -5,14 +5,10 @@ use mathlib.Core.Logic.{◌≢◌}
 use Prim.Native.Nat.{ℕ}
 use lib.ListN.{length}
 use borrow.Author.Tests.{eq-eqb, ne_eqb}
-use Rattle.rules.specs.Steps.{Numbers}
 use Rattle.rules.specs.Refusals.{cold_words}
 use Rattle.rules.specs.Calls.{Listed}
-use Rattle.answers.specs.declared.Answer.{Answer}
-use Rattle.answers.specs.Answers.{numbers_of}
+use Rattle.answers.specs.Answers.{Answer, numbers_of}
 use Rattle.cold.specs.Listing.{listed, Promise as Listing}
-use Rattle.numbers.specs.declared.Five.{Five}
-use Rattle.numbers.specs.Five.{five_of}
 use Rattle.reply.specs.Reply.{reply_bytes, reply_of}
 use Rattle.reply.specs.Told.{Replied}
 use Rattle.host.specs.Host.{unsized}
@@ -23,10 +19,9 @@ module _ (t l r : List ℕ) (s hour T : ℕ) where
   unfolding cold.host
   lists_nothing h = rw (ne_eqb (length r) reply_bytes h)
 
-  pub lists_call : {code : ℕ} {t' l' r' : List ℕ} (a : Answer) (x : Five) → length r ≡ reply_bytes → Listing t l s hour T (listed a t' l') → five_of x ≡ numbers_of a
-      → Replied code r' (five_of x) → cold.Promise t l r s hour T (cold.left code t' l' r')
+  pub lists_call : {code : ℕ} {t' l' r' : List ℕ} (a : Answer) → length r ≡ reply_bytes → Listing t l s hour T (listed a t' l') → Replied code r' (numbers_of a)
+      → cold.Promise t l r s hour T (cold.left code t' l' r')
   unfolding cold.host
-  lists_call {t' = t'} {l' = l'} a x h s n w =
+  lists_call {t' = t'} {l' = l'} a h s w =
       rw (eq-eqb (length r) reply_bytes h)
-      ((λ i. cold.left (w.returned i) t' l' (w.written i)) ∙ ap (λ (y : Numbers). cold.left y.code t' l' (reply_of y)) n
-      ∙ ap (λ (o : Listed). cold.left o.answer.code o.bytes o.list (reply_of o.answer)) s)
+      ((λ i. cold.left (w.returned i) t' l' (w.written i)) ∙ ap (λ (o : Listed). cold.left o.answer.code o.bytes o.list (reply_of o.answer)) s)

@@ -1,8 +1,6 @@
 // The cold list as a C program asks for it: with a lent list of 64 bytes beside the table and the reply.
 ghost use Rattle.both.specs.ColdHost.{left, Promise};
 
-use reply::Reply;
-
 pub fn cold(
     site: u64,
     hour: u64,
@@ -13,13 +11,13 @@ pub fn cold(
 ) -> u32
     ensures { Promise table.old list.old reply.old site hour threshold (left result table.new list.new reply.new) }
 {
-    if reply.len() != Reply::BYTES {
+    let Some(reply) = reply.as_mut_array() else {
         return reply::wrong_size(cold::words_refusal(
             hour as usize,
             threshold as usize,
             list.len(),
         ));
-    }
+    };
     let a = cold::cold(
         table,
         list,
@@ -27,5 +25,5 @@ pub fn cold(
         hour as usize,
         threshold as usize,
     );
-    reply::answer(reply, numbers::numbers_of(a))
+    reply::answer(reply, a)
 }

@@ -1,8 +1,9 @@
 // Document 01's cases that are not starred, and case 13. Each answer is a line: the case, then the answer's five numbers.
 #![tactic(auto)]
 
-use answers::{Answer, Engine};
+use answers::Answer;
 use layout::Table;
+use rows::{Engine, Ranked, Short};
 use schedule::Schedule;
 use std::io;
 use std::io::Write;
@@ -11,6 +12,11 @@ fn say(rt: HostRuntime, case: u32, a: Answer) -> io::Result<()> {
     let mut text = [0u8; Schedule::LINE];
     let end = schedule::write_answer(&mut text, case, a);
     rt.stdout().write_all(&text[..end])
+}
+
+// A call that leads up to a case's own.
+fn served(a: Answer) -> io::Result<()> {
+    a.map(|_| ()).map_err(|_| io::Error::other("a call that leads up to a case is not served"))
 }
 
 // 2: (8, 64) is accepted; (0, 1), (9, 1) and (1, 65) answer 3.
@@ -23,52 +29,51 @@ fn counts(rt: HostRuntime, t: &mut [u8]) -> io::Result<()> {
 
 // 8: with one site, 17 puts in a row are accepted.
 fn alone(rt: HostRuntime, t: &mut [u8]) -> io::Result<()> {
-    table::open(t, 1, 2);
-    let mut i: usize = 0;
-    while i < 17 {
-        say(rt, 8, table::put(t, 0, 0, 5, Engine::Ranked))?;
-        i += 1;
+    served(table::open(t, 1, 2))?;
+    for _ in 0..17 {
+        say(rt, 8, table::put::<Ranked>(t, 0, 0, 5))?;
     }
     Ok(())
 }
 
 // 13: 0 puts 5 and 1 puts 6 on one key, each delivered to the other; then what each holds. With ranks it is 6 at both,
 // with short lists still the one delivered last.
-fn winner(rt: HostRuntime, t: &mut [u8], engine: Engine) -> io::Result<()> {
-    table::open(t, 2, 2);
-    table::put(t, 0, 0, 5, engine);
-    table::put(t, 1, 0, 6, engine);
-    deliver::deliver(t, 0, 1, engine);
-    deliver::deliver(t, 1, 0, engine);
+fn winner<E: Engine>(rt: HostRuntime, t: &mut [u8]) -> io::Result<()> {
+    served(table::open(t, 2, 2))?;
+    served(table::put::<E>(t, 0, 0, 5))?;
+    served(table::put::<E>(t, 1, 0, 6))?;
+    served(deliver::deliver::<E>(t, 0, 1))?;
+    served(deliver::deliver::<E>(t, 1, 0))?;
     say(rt, 13, look::look(t, 0, 0))?;
     say(rt, 13, look::look(t, 1, 0))
 }
 
 // 14: step 6 of the schedule with a budget.
 fn budget(rt: HostRuntime, t: &mut [u8], b: u16) -> io::Result<()> {
-    table::open(t, 3, 4);
-    table::put(t, 0, 1, 7, Engine::Ranked);
-    deliver::deliver(t, 1, 0, Engine::Ranked);
-    table::get(t, 1, 1, Engine::Ranked);
-    table::put(t, 1, 2, 9, Engine::Ranked);
-    deliver::deliver(t, 2, 1, Engine::Ranked);
-    say(rt, 14, drain::drain(t, 2, b, Engine::Ranked))
+    served(table::open(t, 3, 4))?;
+    served(table::put::<Ranked>(t, 0, 1, 7))?;
+    served(deliver::deliver::<Ranked>(t, 1, 0))?;
+    served(table::get::<Ranked>(t, 1, 1))?;
+    served(table::put::<Ranked>(t, 1, 2, 9))?;
+    // Step 5 is refused with 10.
+    let _ = deliver::deliver::<Ranked>(t, 2, 1);
+    say(rt, 14, drain::drain::<Ranked>(t, 2, b))
 }
 
 // 16: a buffer or a table that the calls do not take.
 fn calls(rt: HostRuntime, t: &mut [u8]) -> io::Result<()> {
-    say(rt, 16, table::put(t, 0, 0, 5, Engine::Ranked))?;
-    say(rt, 16, table::get(t, 0, 0, Engine::Ranked))?;
-    say(rt, 16, deliver::deliver(t, 1, 0, Engine::Ranked))?;
-    say(rt, 16, drain::drain(t, 0, 903, Engine::Ranked))
+    say(rt, 16, table::put::<Ranked>(t, 0, 0, 5))?;
+    say(rt, 16, table::get::<Ranked>(t, 0, 0))?;
+    say(rt, 16, deliver::deliver::<Ranked>(t, 1, 0))?;
+    say(rt, 16, drain::drain::<Ranked>(t, 0, 903))
 }
 
 fn main(rt: HostRuntime) -> io::Result<()> {
     let mut t = [0u8; Table::BYTES];
     counts(rt, &mut t)?;
     alone(rt, &mut t)?;
-    winner(rt, &mut t, Engine::Ranked)?;
-    winner(rt, &mut t, Engine::Short)?;
+    winner::<Ranked>(rt, &mut t)?;
+    winner::<Short>(rt, &mut t)?;
     budget(rt, &mut t, 5)?;
     budget(rt, &mut t, 6)?;
     // 15,619 bytes answers 1
@@ -76,7 +81,7 @@ fn main(rt: HostRuntime) -> io::Result<()> {
     say(rt, 16, table::open(&mut short, 2, 2))?;
     calls(rt, &mut short)?;
     // byte 0 set to 9 answers 2
-    table::open(&mut t, 2, 2);
+    served(table::open(&mut t, 2, 2))?;
     t[0] = 9;
     calls(rt, &mut t)
 }

@@ -4,7 +4,7 @@ use Rattle.std.specs.Prelude.{◌≡◌, List, [], ◌∷◌, map, ℕ, min, ◌
 use Rattle.clock.specs.Vector.{Vector}
 use Rattle.layout.specs.State.{table, state_of, the_widths, the_offsets}
 use Rattle.layout.specs.Theorems.{BytesBack, StateBack, StateFits, BytesLong}
-use Rattle.rules.specs.Engine.{short, ours}
+use Rattle.rules.specs.Engine.{Engine, short, ours}
 use Rattle.rules.specs.Calls.{Open, Put, Get, Deliver, Drain, Touch, Look, Adopt, Retire, Served, Listed, serve}
 use Rattle.rules.specs.Cases.{Case, cases, Computed}
 use Rattle.rules.specs.TouchCases.{parts, forms, kinds, touches, listed_so, words_first}
@@ -27,7 +27,6 @@ use Rattle.demands.specs.Demands.{Demand1, Demand2, Demand3, NothingDelivered, p
 use Rattle.demands.specs.Stores.{OneWinner, DrainedEqual}
 use Rattle.demands.specs.Agreement.{Agreement}
 use Rattle.demands.specs.Schedule.{schedule, by_hand, looking, adopting, adopted, winning, closing, closed}
-use Rattle.answers.specs.declared.Engine.{Engine}
 use Rattle.answers.specs.NoSecond as table
 use Rattle.table.specs.Worked as worked
 use Rattle.host.specs.Host.{most_tries}

@@ -1,5 +1,5 @@
 -- Arrays as maps: storing at a place, and a loop that gives the places one after another. Assumes nothing.
-use mathlib.Core.Path.{◌≡◌, refl, sym, ap, ◌∙◌, fun_ext}
+use mathlib.Core.Path.{◌≡◌, refl, sym, ap, subst, ◌∙◌, fun_ext}
 use mathlib.Core.Bool.{true, false}
 use mathlib.Core.List.{List}
 use mathlib.Core.Logic.{⊎_elim, ◌≢◌}
@@ -8,7 +8,10 @@ use native.Mathlib.Omega.{arith}
 use lib.Dec.{ltb}
 use lib.ListN.{length, get_or, set, replicate, get_or-eq_default}
 use lib.Seq.{get_or-set_same, get_or-set_other}
+use denote.Param.Members.{Mut}
 use borrow.Author.Tests.{lt-ltb, le-ltb, ltb-true, ltb-false}
+use Rattle.std.specs.Array.{IsFromFnResult, IsFromFnResultFrom}
+use Rattle.std.specs.Fn.{Called}
 use Rattle.clock.specs.Map.{◌⟨◌≔◌⟩, up_to}
 use Rattle.clock.specs.Vector.{zeros}
 use Rattle.clock.specs.Clock.{cells}
@@ -33,9 +36,6 @@ module _ {B : Type 0} (v w : ℕ → B) where
 
   pub up_to_from : (i j : ℕ) → i ≤ j → up_to i v w j ≡ w j
   up_to_from i j h = rw (le-ltb j i h)
-
-  pub up_to_start : w ≡ up_to 0 v w
-  up_to_start = fun_ext λ j. sym (up_to_from 0 j (omega arith))
 
   pub up_to_none : (i : ℕ) → up_to i (up_to i w v) w ≡ w
   up_to_none i =
@@ -74,6 +74,20 @@ pub fill_next : {A B : Type 0} (f : A → B) (d : A) (v w : ℕ → B) (l : List
     → i < length l → through f d l ≡ up_to i v w → f a ≡ v i → through f d (set l i a) ≡ up_to (i + 1) v w
 fill_next f d v w l i a h p e = through_set f d l i a h ∙ rw (p, e) (up_to_next v w i)
 
+-- an array made by one call for each place, where a call leaves what it is made with as it was
+pub made_at : {F B : Type 0} {g : Mut F (ℕ × Unit {0}) B} {f : F} {l : List B} {n : ℕ} (v : ℕ → B) → IsFromFnResult g f l n
+    → ((i : ℕ) (b : B) (q : F) → i < n → Called g f (i, tt) b q → (q ≡ f) × (b ≡ v i)) → (j : ℕ) (d : B) → j < n → get_or l j d ≡ v j
+made_at {F} {B} {g} {f} {l} {n} v made calls j d h = go n 0 f refl (omega arith) made.each (omega arith) (omega arith)
+  where
+    go : (m i : ℕ) (p : F) → p ≡ f → i + m ≤ n → IsFromFnResultFrom g p l i m → i ≤ j → j < i + m → get_or l j d ≡ v j
+    go zero i p e s made a b = absurd (omega arith)
+    go (suc m) i p e s made a b =
+        let call = calls i made.1 made.0 (omega arith) (subst (λ (p : F). Called g p (i, tt) made.1 made.0) e made.3) in
+        ⊎_elim
+        (λ (same : i ≡ j). subst (λ (j : ℕ). get_or l j d ≡ v j) same (made.2.1 d ∙ call.1))
+        (λ (other : i ≢ j). go m (i + 1) made.0 call.0 (omega arith) made.4 (omega arith) (omega arith))
+        (eq? i j)
+
 -- an array of zeros is the zero vector; past its end an array reads 0
 pub cells_zeros : (m : ℕ) → cells (replicate m 0) ≡ zeros
 cells_zeros m = fun_ext (go m)
@@ -85,3 +99,12 @@ cells_zeros m = fun_ext (go m)
 
 pub cells_past : (l : List ℕ) (m : ℕ) → length l ≡ m → (j : ℕ) → m ≤ j → cells l j ≡ 0
 cells_past l m e j h = get_or-eq_default l 0 (omega arith)
+
+-- an array is a map that is it at its places and 0 past them
+pub cells_are : (l : List ℕ) (m : ℕ) {v : ℕ → ℕ} → length l ≡ m → ((j : ℕ) → j < m → get_or l j 0 ≡ v j) → ((j : ℕ) → m ≤ j → v j ≡ 0) → cells l ≡ v
+cells_are l m e f past =
+    fun_ext λ j.
+    ⊎_elim
+    (λ (h : ltb j m ≡ true). f j (ltb-true j m h))
+    (λ (h : ltb j m ≡ false). let k = ltb-false j m h in cells_past l m e j k ∙ sym (past j k))
+    (true_or_false (ltb j m))

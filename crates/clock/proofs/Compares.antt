@@ -2,11 +2,14 @@
 use mathlib.Core.Path.{◌≡◌, refl, sym, subst, ◌∙◌}
 use mathlib.Core.Bool.{Bool, true, false}
 use mathlib.Core.Logic.{⊎_elim, ◌≢◌}
-use Prim.Native.Nat.{ℕ, ◌+◌, ◌*◌, ◌^◌, ◌≤◌, ◌<◌}
+use Prim.Native.Nat.{ℕ, ◌+◌, ◌-◌, ◌*◌, ◌^◌, ◌≤◌, ◌<◌}
+use native.Mathlib.Numerals.{add-one}
+use native.Mathlib.Nat.{add-mul}
 use native.Mathlib.Omega.{arith}
 use borrow.Author.Tests.{lt-ltb, le-ltb}
-use Rattle.clock.specs.declared.Compared.TheVariants.{Within, Beyond}
-use Rattle.clock.specs.Map.{when◌then◌else◌, any, least, mask}
+use Rattle.std.specs.Prelude.{Result, Ok, Err}
+use Rattle.clock.specs.declared.Beyond.{Beyond}
+use Rattle.clock.specs.Map.{when◌then◌else◌, any, mask}
 use Rattle.clock.specs.Vector.{Vector, beyond}
 use Rattle.clock.specs.Clock.{lowest_beyond, compare}
 use Rattle.clock.proofs.Maps.{eq?}
@@ -39,10 +42,18 @@ module _ (v w : Vector) where
     pub bits : mask i (beyond v w) + 2 ^ i * found ≡ mask 8 (beyond v w)
     pub lowest : found ≢ 0 → Lowest i column number
 
-  pub down_small : (i found column number : ℕ) → Down i found column number → found < 256
-  down_small i found column number d =
-      let all : mask 8 (beyond v w) < 256 = mask_below (beyond v w) 8 in
-      omega (arith, d.bits, part_most i found)
+  pub down_start : {column number : ℕ} → Down 8 0 column number
+  down_start = record { most = omega arith; bits = omega arith; lowest = λ h. absurd (h refl) }
+
+  -- they are fewer than eight before the last, so that the mask can double
+  pub down_doubles : (k found column number : ℕ) → 0 < k → Down k found column number → found < 128
+  down_doubles k found column number h d = go (k - 1) (omega arith) (mask_below (beyond v w) 8)
+    where
+      go : (i : ℕ) → k ≡ i + 1 → mask 8 (beyond v w) < 256 → found < 128
+      go i next all =
+          let two : 2 ^ k ≡ 2 ^ i + 2 ^ i = rw (next, add-one) (omega arith) in
+          let twice : 2 ^ k * found ≡ 2 ^ i * found + 2 ^ i * found = rw two (add-mul (2 ^ i) (2 ^ i) found) in
+          omega (arith, d.bits, twice, part_most i found)
 
   module _ (i k found column number : ℕ) (e : k ≡ i + 1) (d : Down k found column number) where
     pub down_takes : w i < v i → Down i (found + found + 1) i (v i)
@@ -65,31 +76,29 @@ module _ (v w : Vector) where
     unfolding mask
     down_all = omega (arith, subst (λ (z : ℕ). mask z (beyond v w) + 2 ^ z * found ≡ mask 8 (beyond v w)) end d.bits)
 
-    pub is_within : found ≡ 0 → Within ≡ compare v w
+    pub is_within : found ≡ 0 → Ok tt ≡ compare v w
     unfolding compare
     is_within z = rw ((any_denies (beyond v w) 8).1 (λ j. mask_none (beyond v w) 8 j (sym down_all ∙ z)))
 
-    pub is_beyond : found ≢ 0 → Beyond column number found ≡ compare v w
+    pub is_beyond : found ≢ 0 → Err (record { column = column; number = number; mask = found }) ≡ compare v w
     unfolding compare
     is_beyond z =
         let l = d.lowest z in
         rw (down_all, l.named, any_found (beyond v w) 8 column l.below l.found, least_at (beyond v w) 8 column l.below l.found (λ j. l.others j (omega arith)))
 
   -- what is known of the columns once a comparison has answered
-  pub found_within : compare v w ≡ Within → any 8 (beyond v w) ≡ false
+  pub found_within : {u : Unit} → compare v w ≡ Ok u → any 8 (beyond v w) ≡ false
   unfolding compare
-  found_within = go (any 8 (beyond v w))
+  found_within {u} = go (any 8 (beyond v w))
     where
-      go : (t : Bool) → (when t then lowest_beyond v w else Within) ≡ Within → t ≡ false
+      go : (t : Bool) → ◌≡◌ {A = Result Unit Beyond} (when t then Err (lowest_beyond v w) else Ok tt) (Ok u) → t ≡ false
       go true e = let z : ◌≡◌ {A = ℕ} 0 1 = cc in absurd (omega arith)
       go false e = refl
 
-  pub found_beyond : (j x b : ℕ) → compare v w ≡ Beyond j x b
-      → (any 8 (beyond v w) ≡ true) × (j ≡ least 8 (beyond v w)) × (x ≡ v (least 8 (beyond v w))) × (b ≡ mask 8 (beyond v w))
+  pub found_beyond : (b : Beyond) → compare v w ≡ Err b → (any 8 (beyond v w) ≡ true) × (b ≡ lowest_beyond v w)
   unfolding compare
-  found_beyond j x b = go (any 8 (beyond v w))
+  found_beyond b = go (any 8 (beyond v w))
     where
-      go : (t : Bool) → (when t then lowest_beyond v w else Within) ≡ Beyond j x b
-          → (t ≡ true) × (j ≡ least 8 (beyond v w)) × (x ≡ v (least 8 (beyond v w))) × (b ≡ mask 8 (beyond v w))
-      go true e = (refl, cc, cc, cc)
+      go : (t : Bool) → ◌≡◌ {A = Result Unit Beyond} (when t then Err (lowest_beyond v w) else Ok tt) (Err b) → (t ≡ true) × (b ≡ lowest_beyond v w)
+      go true e = (refl, cc)
       go false e = let z : ◌≡◌ {A = ℕ} 0 1 = cc in absurd (omega arith)

@@ -4,3 +4,4 @@ pub mod Below
 pub mod Bits
 pub mod Cells
 pub mod Compares
+pub mod Sums

@@ -1,37 +1,23 @@
 // A clock vector by value: for each of eight sites the greatest clock number seen.
 #![tactic(auto)]
 
-ghost use Rattle.std.specs.Prelude.{◌≡◌, ◌<◌, max};
+ghost use Rattle.std.specs.Prelude.{◌≡◌, ◌<◌};
 ghost use Rattle.clock.specs.Vector.{zeros, join, note, rank};
 ghost use Rattle.clock.specs.Clock.{columns, compare};
 
-#[derive(Clone, Copy)]
+use std::array;
+
+#[derive(Clone, Copy, Debug, PartialEq, Eq)]
 pub struct Clock {
     pub col: [u16; 8],
 }
 
-// Whether a vector is within another in every column, else its lowest column that is beyond, with its number,
-// and the mask of all columns that are.
-#[derive(Clone, Copy)]
-pub enum Compared {
-    Within,
-    Beyond {
-        column: usize,
-        number: u16,
-        mask: u8,
-    },
-}
-
-pub fn greater(a: u16, b: u16) -> u16
-    ensures { result ≡ max a b }
-{
-    if a < b { b } else { a }
-}
-
-fn wide(x: u16) -> u32
-    ensures { (result ≡ x) × (result < 65536) }
-{
-    x as u32
+// The lowest column that is beyond, its number there, and the mask of all columns that are.
+#[derive(Clone, Copy, Debug, PartialEq, Eq)]
+pub struct Beyond {
+    pub column: u8,
+    pub number: u16,
+    pub mask: u8,
 }
 
 impl Clock {
@@ -40,73 +26,57 @@ impl Clock {
     pub fn zero() -> Self
         ensures { columns result ≡ zeros }
     {
-        Clock { col: [0u16; 8] }
+        Clock { col: [0; 8] }
     }
 
     // Joining two clock vectors keeps the greater number in each column.
     pub fn join(self, other: Clock) -> Self
         ensures { columns result ≡ join (columns self) (columns other) }
     {
-        let mut a = self.col;
-        let b = other.col;
-        let mut i = 0;
-        while i < Clock::COLUMNS {
-            a[i] = greater(a[i], b[i]);
-            i += 1;
+        Clock {
+            col: array::from_fn(|i| self.col[i].max(other.col[i])),
         }
-        Clock { col: a }
     }
 
     pub fn note(self, site: usize, clock: u16) -> Self
         requires { site < 8 }
         ensures { columns result ≡ note (columns self) site clock }
     {
-        let mut a = self.col;
-        a[site] = greater(a[site], clock);
-        Clock { col: a }
+        let mut col = self.col;
+        col[site] = col[site].max(clock);
+        Clock { col }
     }
 
     // The sum of the columns.
     pub fn rank(self) -> u32
         ensures { result ≡ rank (columns self) }
     {
-        let a = self.col;
-        let mut sum: u32 = 0;
-        let mut at = 0;
-        while at < Clock::COLUMNS {
-            sum += wide(a[at]);
-            at += 1;
-        }
-        sum
+        self.col.iter().map(|&x| u32::from(x)).sum()
     }
 
-    // Down the columns, so that the last one found is the lowest; the mask doubles at each.
-    pub fn compare(self, other: Clock) -> Compared
+    // Within other in every column; else what is beyond. Down the columns, so that the last one found is the lowest;
+    // the mask doubles at each. By index, which is an answer too.
+    pub fn compare(self, other: Clock) -> Result<(), Beyond>
         ensures { result ≡ compare (columns self) (columns other) }
     {
-        let a = self.col;
-        let b = other.col;
-        let mut mask: u16 = 0;
+        let mut mask = 0;
         let mut column = 0;
-        let mut number: u16 = 0;
-        let mut i = Clock::COLUMNS;
-        while 0 < i {
-            i -= 1;
+        let mut number = 0;
+        for i in (0..Clock::COLUMNS).rev() {
             mask += mask;
-            let x = a[i];
-            if b[i] < x {
+            if other.col[i] < self.col[i] {
                 mask += 1;
-                column = i;
-                number = x;
+                column = i as u8;
+                number = self.col[i];
             }
         }
         if mask == 0 {
-            return Compared::Within;
+            return Ok(());
         }
-        Compared::Beyond {
-            column: column,
-            number: number,
-            mask: mask as u8,
-        }
+        Err(Beyond {
+            column,
+            number,
+            mask,
+        })
     }
 }

@@ -1,2 +1,2 @@
-pub mod Tallies
+pub mod Counting
 pub mod Listing

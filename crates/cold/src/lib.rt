@@ -1,23 +1,23 @@
 // The cold list over a lent buffer of any length.
 #![tactic(auto)]
 
-ghost use Rattle.std.specs.Prelude.{◌≡◌, ℕ, suc, ◌+◌, ◌<◌, ◌≤◌, [], length};
-ghost use Rattle.layout.specs.State.{state_of, table};
+ghost use Rattle.std.specs.Prelude.{◌≡◌, ℕ, suc, ◌<◌, IfOk};
+ghost use Rattle.layout.specs.State.{state_of};
 ghost use Rattle.layout.specs.Records.{entry_of};
 ghost use Rattle.rules.specs.Touch as kinds;
-ghost use Rattle.rules.specs.Touch.{age, aged, kind_of, kind, kinds_at, padded};
+ghost use Rattle.rules.specs.Touch.{age, aged, kind_of, kind, kinds_at};
 ghost use Rattle.rules.specs.Refusals.{first, cold_words};
-ghost use Rattle.rules.specs.Calls.{Cold, asks};
-ghost use Rattle.answers.specs.Answers.{code_of};
-ghost use Rattle.cold.specs.Listing.{listed, Promise, Lists, Stepped};
+ghost use Rattle.answers.specs.Answers.{asked};
+ghost use Rattle.cold.specs.Listing.{listed, Promise};
 ghost use Rattle.cold.specs.Kinds.{meant};
-ghost use Rattle.cold.specs.Tally.{Tally, Small};
+ghost use Rattle.cold.specs.Tally.{Tally};
 
-use answers::{Answer, Refusal};
-use layout::Record;
+use answers::{Answer, Done, Refusal};
+use layout::{Bytes, Entries, Record};
+use sound::Counts;
 
 // What the cold list makes of a key.
-#[derive(Clone, Copy)]
+#[derive(Clone, Copy, Debug, PartialEq, Eq)]
 pub enum Kind {
     Never,
     Malformed,
@@ -26,175 +26,150 @@ pub enum Kind {
     Ahead,
 }
 
-// The lent list: 64 bytes, a key each; the last age that is cold, and the last hour.
-#[derive(Drop)]
-pub struct List {}
+// The lent list: 64 bytes, a key each.
+pub struct List;
 
 impl List {
     pub const BYTES: usize = 64;
+}
 
-    pub const LAST_AGE: usize = 32767;
-
-    pub const LAST_HOUR: usize = 65535;
+// The hour that it is, and the age in hours from which a key is cold.
+#[derive(Clone, Copy, Debug, PartialEq, Eq)]
+pub struct Hours {
+    pub hour: u16,
+    pub threshold: u16,
 }
 
 // The count of hours runs round after 65,535.
 fn age(now: u16, hour: u16) -> u16
     ensures { result ≡ age now hour }
 {
-    std::num::wrapping_sub_u16(now, hour)
+    now.wrapping_sub(hour)
 }
 
-fn aged(a: u16, threshold: u16) -> Kind
-    ensures { meant result ≡ aged threshold a }
-{
-    if 32767 < a {
-        return Kind::Ahead;
+impl Hours {
+    // The last age that is cold.
+    pub const LAST_AGE: u16 = 32767;
+
+    // 14: the hour and the threshold.
+    pub fn new(hour: usize, threshold: usize) -> Result<Hours, Refusal>
+        ensures refusal { asked result ≡ first (cold_words hour threshold 64) }
+        ensures hours { IfOk result (λ h. (h.hour ≡ hour) × (h.threshold ≡ threshold)) }
+    {
+        let hour = u16::try_from(hour).map_err(|_| Refusal::OutOfRange)?;
+        let threshold = u16::try_from(threshold).map_err(|_| Refusal::OutOfRange)?;
+        if !(1..=Hours::LAST_AGE).contains(&threshold) {
+            return Err(Refusal::OutOfRange);
+        }
+        Ok(Hours { hour, threshold })
     }
-    if a < threshold {
-        return Kind::Fresh;
+
+    fn aged(self, a: u16) -> Kind
+        ensures { meant result ≡ aged self.threshold a }
+    {
+        if Hours::LAST_AGE < a {
+            Kind::Ahead
+        } else if a < self.threshold {
+            Kind::Fresh
+        } else {
+            Kind::Cold
+        }
     }
-    Kind::Cold
+
+    fn kind_of(self, v: u32) -> Kind
+        ensures { meant result ≡ kind_of self.hour self.threshold v }
+    {
+        if !touch::well_formed(v) {
+            return Kind::Malformed;
+        }
+        self.aged(age(self.hour, touch::hour_of(v)))
+    }
+
+    fn kind_at(self, e: Record) -> Kind
+        ensures { meant result ≡ kind self.hour self.threshold (entry_of e) }
+    {
+        if e.clock == 0 {
+            return Kind::Never;
+        }
+        self.kind_of(e.value)
+    }
 }
 
-fn kind_of(v: u32, now: u16, threshold: u16) -> Kind
-    ensures { meant result ≡ kind_of now threshold v }
-{
-    if !touch::well_formed(v) {
-        return Kind::Malformed;
-    }
-    aged(age(now, touch::hour_of(v)), threshold)
-}
-
-fn kind_at(e: Record, hour: u16, threshold: u16) -> Kind
-    ensures { meant result ≡ kind hour threshold (entry_of e) }
-{
-    if e.clock == 0 {
-        return Kind::Never;
-    }
-    kind_of(e.value, hour, threshold)
-}
-
-// Keys listed, clocks ahead and malformed values.
-#[derive(Clone, Copy)]
-pub struct Counts {
-    pub listed: usize,
-    pub ahead: usize,
-    pub malformed: usize,
+// Keys listed, clocks ahead and malformed values. The list is C's own, so its length stands here.
+#[derive(Clone, Copy, Debug, PartialEq, Eq)]
+pub struct Tallies {
+    pub listed: u8,
+    pub ahead: u8,
+    pub malformed: u8,
 }
 
 // One key more, in the list if it is cold.
-fn count(list: &mut [u8], c: Counts, x: usize, kind: Kind) -> Counts
-    requires { (length list.old ≡ 64) × (c.listed < 64) × (c.ahead < 64) × (c.malformed < 64) × (x < 64) }
+fn count(list: &mut [u8; List::BYTES], c: Tallies, x: usize, kind: Kind) -> Tallies
+    requires { (c.listed < 64) × (c.ahead < 64) × (c.malformed < 64) × (x < 64) }
     ensures { (f : ℕ → kinds.Kind) → f x ≡ meant kind → Tally f x list.old c → Tally f (suc x) list.new result }
 {
-    let at = c.listed;
     match kind {
         Kind::Cold => {
-            list[at] = x as u8;
-            Counts {
-                listed: at + 1,
-                ahead: c.ahead,
-                malformed: c.malformed,
+            list[usize::from(c.listed)] = x as u8;
+            Tallies {
+                listed: c.listed + 1,
+                ..c
             }
         }
-        Kind::Ahead => Counts {
-            listed: at,
+        Kind::Ahead => Tallies {
             ahead: c.ahead + 1,
-            malformed: c.malformed,
+            ..c
         },
-        Kind::Malformed => Counts {
-            listed: at,
-            ahead: c.ahead,
+        Kind::Malformed => Tallies {
             malformed: c.malformed + 1,
+            ..c
         },
-        Kind::Fresh => c,
-        Kind::Never => c,
+        Kind::Fresh | Kind::Never => c,
     }
 }
 
-fn clear(list: &mut [u8])
-    requires { length list.old ≡ 64 }
-    ensures { list.new ≡ padded [] }
+// Each key at s, ascending: in the list if it is cold, and counted. A fold would carry the lent list as well.
+fn tally(t: &Bytes, list: &mut [u8; List::BYTES], s: usize, counts: Counts, hours: Hours) -> Tallies
+    requires { s < 8 }
+    ensures { Tally (kinds_at (state_of t.now) s hours.hour hours.threshold) counts.keys list.new result }
 {
-    let mut i = 0;
-    while i < List::BYTES {
-        list[i] = 0;
-        i += 1;
-    }
-}
-
-// Each key at s, ascending: in the list if it is cold, and counted.
-fn tally(t: &[u8], list: &mut [u8], s: usize, k: usize, hour: u16, threshold: u16) -> Counts
-    requires { (length t.now ≡ table.width) × (length list.old ≡ 64) × (s < 8) × (k ≤ 64) }
-    ensures { Tally (kinds_at (state_of t.now) s hour threshold) k list.new result × Small k result }
-{
-    clear(list);
-    let mut c = Counts {
+    *list = [0; List::BYTES];
+    let mut c = Tallies {
         listed: 0,
         ahead: 0,
         malformed: 0,
     };
-    let mut x = 0;
-    while x < k {
-        let e = layout::entry_at(t, s, x);
-        c = count(list, c, x, kind_at(e, hour, threshold));
-        x += 1;
+    for x in 0..counts.keys {
+        let e = layout::record_at::<Entries>(t, s, x);
+        c = count(list, c, x, hours.kind_at(e));
     }
     c
 }
 
-// 14: the threshold, the list's size and the hour.
-pub fn words_refusal(hour: usize, threshold: usize, room: usize) -> Refusal
-    ensures { code_of result ≡ first (cold_words hour threshold room) }
+// 14: the list's size, the hour and the threshold.
+pub fn words_refusal(hour: usize, threshold: usize, room: usize) -> Result<(), Refusal>
+    ensures { asked result ≡ first (cold_words hour threshold room) }
 {
-    if threshold == 0 {
-        return Refusal::OutOfRange;
-    }
-    if List::LAST_AGE < threshold {
-        return Refusal::OutOfRange;
-    }
     if room != List::BYTES {
-        return Refusal::OutOfRange;
+        return Err(Refusal::OutOfRange);
     }
-    if List::LAST_HOUR < hour {
-        return Refusal::OutOfRange;
-    }
-    Refusal::Nothing
+    Hours::new(hour, threshold)?;
+    Ok(())
 }
 
-fn cold_refusal(t: &[u8], s: usize, hour: usize, threshold: usize, room: usize) -> Refusal
-    ensures { code_of result ≡ first (asks t.now (Cold s hour threshold room)) }
-{
-    let why = words_refusal(hour, threshold, room);
-    match why {
-        Refusal::Nothing => refusals::site_refusal(t, s),
-        _ => why,
-    }
-}
-
-// The list and the counts: a look at every key.
-fn cold_step(t: &[u8], list: &mut [u8], s: usize, hour: u16, threshold: u16) -> Answer
-    requires { Lists t.now list.old s }
-    ensures { Stepped (state_of t.now) s hour threshold (listed result t.now list.new) }
-{
-    let h = layout::read_header(t);
-    let k = layout::wide_byte(h.k);
-    let c = tally(t, list, s, k, hour, threshold);
-    Answer::Done {
-        key: c.listed as u8,
-        site: c.ahead as u8,
-        clock: c.malformed as u16,
-        value: 0,
-    }
-}
-
+// A look at every key. Its own numbers and the list's size are asked first of all.
 pub fn cold(t: &[u8], list: &mut [u8], s: usize, hour: usize, threshold: usize) -> Answer
     ensures { Promise t.now list.old s hour threshold (listed result t.now list.new) }
 {
-    let why = cold_refusal(t, s, hour, threshold, list.len());
-    match why {
-        Refusal::Nothing => cold_step(t, list, s, hour as u16, threshold as u16),
-        _ => Answer::Refused(why),
-    }
+    let list = list.as_mut_array().ok_or(Refusal::OutOfRange)?;
+    let hours = Hours::new(hour, threshold)?;
+    let t = t.as_array().ok_or(Refusal::Size)?;
+    let counts = refusals::site_refusal(t, s)?;
+    let c = tally(t, list, s, counts, hours);
+    Ok(Done::Call {
+        key: c.listed,
+        site: c.ahead,
+        clock: u16::from(c.malformed),
+        value: 0,
+    })
 }

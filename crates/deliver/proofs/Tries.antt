@@ -1,28 +1,28 @@
 -- A delivery attempted on a sound table and two of its sites: 9, then 10, then the step. Assumes nothing.
 use mathlib.Core.Path.{◌≡◌, sym, ap, ◌∙◌}
-use mathlib.Core.List.{List}
 use mathlib.Core.Bool.{true, false}
 use mathlib.Core.Logic.{◌≢◌}
 use Prim.Native.Nat.{ℕ, ◌+◌, ◌-◌, ◌%◌, ◌<◌}
 use native.Mathlib.Omega.{arith}
 use borrow.Author.Tests.{eq-eqb, ne_eqb}
+use Rattle.std.specs.Prelude.{Result}
 use Rattle.clock.specs.Map.{any}
-use Rattle.clock.specs.declared.Compared.{Compared}
+use Rattle.clock.proofs.Says.{denies_not, denies_or, denies_le, denies_eq, denies_itself}
+use Rattle.clock.specs.declared.Beyond.{Beyond}
 use Rattle.clock.specs.Clock.{columns, compare}
-use Rattle.layout.specs.State.{State, Update, state_of, last_clock}
-use Rattle.layout.specs.Ranges.{Bytes}
+use Rattle.layout.specs.State.{State, Update}
 use Rattle.layout.specs.declared.Record.{Record}
 use Rattle.layout.specs.Records.{update_of}
-use Rattle.layout.proofs.TableTrips.{state_fits}
 use Rattle.rules.specs.Engine.{Engine}
 use Rattle.rules.specs.Live.{gone}
 use Rattle.rules.specs.Sound.{Sound, Retained}
 use Rattle.rules.specs.Steps.{refused, next, waiting, deliver}
-use Rattle.rules.specs.Refusals.{missing, cause, deliver_refusals, undelivered}
+use Rattle.rules.specs.Refusals.{first, missing, cause, deliver_refusals, undelivered}
 use Rattle.rules.specs.Drain.{try}
-use Rattle.laws.proofs.Given.{unless_none, unless_first}
+use Rattle.laws.proofs.Given.{unless_none, unless_first, past, end}
+use Rattle.laws.proofs.Tested.{sound_tested}
 use Rattle.laws.proofs.Ready.{deliver_asks}
-use Rattle.refusals.specs.Asked.{Attempts}
+use Rattle.refusals.specs.Asked.{receives_in, Attempts}
 use Rattle.deliver.specs.Fits.{DeliverFits}
 
 module _ (E : Engine) (S : State) (s o : ℕ) (D : Sound S) (hs : s < S.n) (ho : o < S.n) (hd : s ≢ o) (live : gone S s ≡ false) where
@@ -48,21 +48,13 @@ module _ (E : Engine) (S : State) (s o : ℕ) (D : Sound S) (hs : s < S.n) (ho :
 pub differ : {x y a b : ℕ} → x ≡ a → y ≡ b → x ≢ y → a ≢ b
 differ ex ey h e = h (ex ∙ e ∙ sym ey)
 
--- the update that is left for s: its key is one of the table's, and its clock fits
-module _ (t : List ℕ) (s o : ℕ) (h : Attempts t s o) (behind : (state_of t).applied s o ≢ (state_of t).applied o o) where
-  abbrev S : State
-  S = state_of t
-
+-- the update that is left for s: its key is one of the table's
+module _ (S : State) (s o : ℕ) (h : Attempts S s o) (behind : S.applied s o ≢ S.applied o o) where
   pub waiting_key : (waiting S s o).key < 64
   waiting_key =
       let most = h.sound.most s o h.site h.origin in
       let r : Retained S o (next S s o) = record { made = omega arith; by = s; site = (h.site, h.live); lacks = omega arith } in
       omega (arith, (h.sound.kept o (next S s o) h.origin r).1, h.sound.keys)
-
-  pub spare : Bytes t → S.applied s o ≢ last_clock
-  spare b =
-      let l : o < 8 = omega (arith, h.origin, h.sound.sites) in
-      omega (arith, h.sound.most s o h.site h.origin, ((state_fits t h.size b).1.1.1.1.0.0 o l).0 o l)
 
   -- as code finds it
   module _ (u : Record) (p : ℕ) (eu : update_of u ≡ S.updates o (p % 16)) (ep : p ≡ S.applied s o) where
@@ -71,16 +63,23 @@ module _ (t : List ℕ) (s o : ℕ) (h : Attempts t s o) (behind : (state_of t).
         let e : p ≡ next S s o - 1 = ep ∙ omega arith in
         eu ∙ (λ i. S.updates o (e i % 16))
 
-    pub compared : (m : Compared) → m ≡ compare (columns u.depends) (S.applied s) → compare (waiting S s o).depends (S.applied s) ≡ m
+    pub compared : (m : Result Unit Beyond) → m ≡ compare (columns u.depends) (S.applied s) → compare (waiting S s o).depends (S.applied s) ≡ m
     compared m e = sym (e ∙ (λ i. compare (next_update i).depends (S.applied s)))
 
-    pub deliver_fits : (c : ℕ) → c ≡ S.applied s o + 1 → DeliverFits t s o u c
+    pub deliver_fits : (c : ℕ) → c ≡ S.applied s o + 1 → DeliverFits S s o u c
     deliver_fits c ec =
         record {
-          size = h.size;
           site = omega (arith, h.site, h.sound.sites);
           origin = omega (arith, h.origin, h.sound.sites);
           key = omega (arith, waiting_key, ap (λ (w : Update). w.key) next_update);
           update = next_update;
           clock = ec ∙ omega arith;
         }
+
+-- what is asked of a delivery first does not hold
+pub deliver_clear : (S : State) (s o : ℕ) → first (receives_in S s o) ≡ 0 → Attempts S s o
+deliver_clear S s o h =
+    let r =
+    (past 2 (omega arith) (denies_not (sound_tested S))
+    (past 4 (omega arith) (denies_or (denies_le S.n s) (denies_le S.n o)) (past 5 (omega arith) (denies_eq s o) (past 16 (omega arith) (denies_itself (gone S s)) end)))).exactly.0 h in
+    record { sound = r.0; site = r.1.0.0; origin = r.1.0.1; others = r.1.1.0; live = r.1.1.1.0 }

@@ -5,12 +5,14 @@ ghost use Rattle.std.specs.Prelude.{◌≡◌, ◌≤◌, ◌<◌, ◌+◌};
 ghost use Rattle.layout.specs.State.{state_of};
 ghost use Rattle.rules.specs.Drain.{skip, turn, drain};
 ghost use Rattle.rules.specs.Calls.{Drain};
-ghost use Rattle.answers.specs.Answers.{engine_of, numbers_of, served, PromiseBy};
+ghost use Rattle.answers.specs.Answers.{numbers_of, served, PromiseBy};
 ghost use Rattle.drain.specs.Turns.{turn_of, Drains};
 
-use answers::{Answer, Engine, Refusal};
+use answers::{Answer, Done, Refusal, Unserved};
+use layout::Bytes;
+use rows::Engine;
 
-// Where a try is due, in a pass that has delivered or not; from n on the drain is at its end.
+// Where a try is due, in a pass that has delivered or not.
 #[derive(Clone, Copy)]
 pub struct Turn {
     pub origin: usize,
@@ -26,75 +28,57 @@ fn skip(s: usize, o: usize) -> usize
 }
 
 // From origin o on: the next origin of this pass, else the first of a new one if this one delivered.
-fn next_turn(n: usize, s: usize, o: usize, delivered: bool) -> Turn
-    requires { (n ≤ 8) × (o ≤ 8) }
-    ensures { turn_of n result.origin result.delivered ≡ turn n s o delivered }
+fn next_turn(n: usize, s: usize, o: usize, delivered: bool) -> Option<Turn>
+    requires { o ≤ 8 }
+    ensures { turn_of result ≡ turn n s o delivered }
 {
     let here = skip(s, o);
     if here < n {
-        return Turn {
+        return Some(Turn {
             origin: here,
-            delivered: delivered,
-        };
+            delivered,
+        });
     }
     let first = skip(s, 0);
-    if delivered {
-        if first < n {
-            return Turn {
-                origin: first,
-                delivered: false,
-            };
-        }
+    if delivered && first < n {
+        return Some(Turn {
+            origin: first,
+            delivered: false,
+        });
     }
-    Turn {
-        origin: n,
-        delivered: false,
-    }
+    None
 }
 
 // The tries made are counted one for each delivery attempted; when one is due and the budget is spent it stops.
-fn passes(t: &mut [u8], n: usize, s: usize, budget: u16, engine: Engine) -> Answer
-    requires { Drains t.old n s }
-    ensures { (numbers_of result ≡ (drain (engine_of engine) (state_of t.old) s budget).answer) × (state_of t.new ≡ (drain (engine_of engine) (state_of t.old) s budget).after) }
+fn passes<E: Engine>(t: &mut Bytes, n: usize, s: usize, budget: u16) -> Answer
+    requires { Drains (state_of t.old) n s }
+    ensures { (numbers_of result ≡ (drain E.engine (state_of t.old) s budget).answer) × (state_of t.new ≡ (drain E.engine (state_of t.old) s budget).after) }
 {
-    let start = next_turn(n, s, 0, false);
-    let mut o = start.origin;
-    let mut delivered = start.delivered;
+    let mut turn = next_turn(n, s, 0, false);
     let mut deliveries: u16 = 0;
     let mut tries: u16 = 0;
-    while o < n {
+    while let Some(Turn { origin, delivered }) = turn {
         if tries == budget {
-            return Answer::Stopped {
-                deliveries: deliveries,
-                tries: tries,
-            };
+            return Err(Unserved::Stopped { deliveries, tries });
         }
-        let answer = deliver::attempt(t, s, o, engine);
         tries += 1;
-        if answers::code(answer) == 0 {
+        turn = if deliver::attempt::<E>(t, s, origin).is_ok() {
             deliveries += 1;
-            delivered = true;
+            Some(Turn {
+                origin,
+                delivered: true,
+            })
         } else {
-            let next = next_turn(n, s, o + 1, delivered);
-            o = next.origin;
-            delivered = next.delivered;
-        }
+            next_turn(n, s, origin + 1, delivered)
+        };
     }
-    Answer::Drained {
-        deliveries: deliveries,
-        tries: tries,
-    }
+    Ok(Done::Drain { deliveries, tries })
 }
 
-pub fn drain(t: &mut [u8], s: usize, budget: u16, engine: Engine) -> Answer
-    ensures { PromiseBy engine t.old (Drain s budget) (served result t.new) }
+pub fn drain<E: Engine>(t: &mut [u8], s: usize, budget: u16) -> Answer
+    ensures { PromiseBy E.engine t.old (Drain s budget) (served result t.new) }
 {
-    let why = refusals::site_refusal(t, s);
-    match why {
-        Refusal::Nothing => {
-            let h = layout::read_header(t);
-            passes(t, layout::wide_byte(h.n), s, budget, engine)
-        }
-        _ => Answer::Refused(why),
-    }
+    let t = t.as_mut_array().ok_or(Refusal::Size)?;
+    let counts = refusals::site_refusal(t, s)?;
+    passes::<E>(t, counts.sites, s, budget)
 }

@@ -12,5 +12,5 @@ pub extern "C" fn fc_cold(
 ) -> u32
     ensures { Promise table.old list.old reply.old site hour threshold (left result table.new list.new reply.new) }
 {
-    forkcanyon::cold_list::fc_cold(site, hour, threshold, table, list, reply)
+    forkcanyon::cold(site, hour, threshold, table, list, reply)
 }

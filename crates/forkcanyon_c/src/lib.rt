@@ -1,10 +1,13 @@
 // The calls as a C program makes them: with numbers, the table's bytes and a reply of 12 bytes. Host numbers are
-// 64 bits wide, so that none is cut on the way in; the value is 32.
+// 64 bits wide, so that none is cut on the way in; the value is 32. C has no type parameter: these and the calls with short
+// lists differ in their engine alone.
 #![tactic(auto)]
 
 ghost use Rattle.std.specs.Prelude.{min};
 ghost use Rattle.rules.specs.Calls.{Open, Put, Get, Deliver, Drain, Touch, Look, Adopt, Retire};
 ghost use Rattle.host.specs.Host.{left, Promise, most_tries};
+
+use forkcanyon::Ranked;
 
 pub mod cold_list;
 pub mod short_lists;
@@ -13,35 +16,35 @@ pub mod short_lists;
 pub extern "C" fn fc_open(sites: u64, keys: u64, table: &mut [u8], reply: &mut [u8]) -> u32
     ensures { Promise table.old reply.old (Open sites keys) (left result table.new reply.new) }
 {
-    forkcanyon::fc_open(sites, keys, table, reply)
+    forkcanyon::open(sites, keys, table, reply)
 }
 
 #[unsafe(no_mangle)]
 pub extern "C" fn fc_put(site: u64, key: u64, value: u32, table: &mut [u8], reply: &mut [u8]) -> u32
     ensures { Promise table.old reply.old (Put site key value) (left result table.new reply.new) }
 {
-    forkcanyon::fc_put(site, key, value, table, reply)
+    forkcanyon::put::<Ranked>(site, key, value, table, reply)
 }
 
 #[unsafe(no_mangle)]
 pub extern "C" fn fc_get(site: u64, key: u64, table: &mut [u8], reply: &mut [u8]) -> u32
     ensures { Promise table.old reply.old (Get site key) (left result table.new reply.new) }
 {
-    forkcanyon::fc_get(site, key, table, reply)
+    forkcanyon::get::<Ranked>(site, key, table, reply)
 }
 
 #[unsafe(no_mangle)]
 pub extern "C" fn fc_deliver(site: u64, origin: u64, table: &mut [u8], reply: &mut [u8]) -> u32
     ensures { Promise table.old reply.old (Deliver site origin) (left result table.new reply.new) }
 {
-    forkcanyon::fc_deliver(site, origin, table, reply)
+    forkcanyon::deliver::<Ranked>(site, origin, table, reply)
 }
 
 #[unsafe(no_mangle)]
 pub extern "C" fn fc_drain(site: u64, budget: u64, table: &mut [u8], reply: &mut [u8]) -> u32
     ensures { Promise table.old reply.old (Drain site (min budget most_tries)) (left result table.new reply.new) }
 {
-    forkcanyon::fc_drain(site, budget, table, reply)
+    forkcanyon::drain::<Ranked>(site, budget, table, reply)
 }
 
 #[unsafe(no_mangle)]
@@ -56,14 +59,14 @@ pub extern "C" fn fc_touch(
 ) -> u32
     ensures { Promise table.old reply.old (Touch site key hour toucher tier) (left result table.new reply.new) }
 {
-    forkcanyon::fc_touch(site, key, hour, toucher, tier, table, reply)
+    forkcanyon::touch::<Ranked>(site, key, hour, toucher, tier, table, reply)
 }
 
 #[unsafe(no_mangle)]
 pub extern "C" fn fc_look(site: u64, key: u64, table: &mut [u8], reply: &mut [u8]) -> u32
     ensures { Promise table.old reply.old (Look site key) (left result table.new reply.new) }
 {
-    forkcanyon::fc_look(site, key, table, reply)
+    forkcanyon::look(site, key, table, reply)
 }
 
 #[unsafe(no_mangle)]
@@ -77,12 +80,12 @@ pub extern "C" fn fc_adopt(
 ) -> u32
     ensures { Promise table.old reply.old (Adopt site key origin clock) (left result table.new reply.new) }
 {
-    forkcanyon::fc_adopt(site, key, origin, clock, table, reply)
+    forkcanyon::adopt::<Ranked>(site, key, origin, clock, table, reply)
 }
 
 #[unsafe(no_mangle)]
 pub extern "C" fn fc_retire(site: u64, table: &mut [u8], reply: &mut [u8]) -> u32
     ensures { Promise table.old reply.old (Retire site) (left result table.new reply.new) }
 {
-    forkcanyon::fc_retire(site, table, reply)
+    forkcanyon::retire(site, table, reply)
 }

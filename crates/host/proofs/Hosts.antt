@@ -7,16 +7,12 @@ use Prim.Native.Nat.{ℕ}
 use lib.ListN.{length}
 use borrow.Author.Tests.{eq-eqb, ne_eqb}
 use Rattle.rules.specs.Engine.{Engine}
-use Rattle.rules.specs.Steps.{Numbers}
 use Rattle.rules.specs.Refusals.{Refusals, first}
 use Rattle.laws.proofs.Given.{Avoids}
 use Rattle.rules.specs.Calls.{Call, words, Served, serve}
-use Rattle.answers.specs.declared.Answer.{Answer}
-use Rattle.answers.specs.Answers.{numbers_of, served}
-use Rattle.numbers.specs.declared.Five.{Five}
+use Rattle.answers.specs.Answers.{Answer, numbers_of, served}
 use Rattle.reply.specs.Reply.{reply_bytes, reply_of}
 use Rattle.host.specs.Host.{Hosted, left, unsized, host}
-use Rattle.numbers.specs.Five.{five_of}
 use Rattle.reply.specs.Told.{Replied, behind}
 
 -- what is left where a call is made
@@ -34,10 +30,7 @@ module _ (E : Engine) (t r : List ℕ) (c : Call) where
   unfolding host
   hosts_nothing h = rw (ne_eqb (length r) reply_bytes h)
 
-  -- the call made, its answer told in five numbers and these written
-  pub hosts_call : {code : ℕ} {t' r' : List ℕ} (a : Answer) (x : Five) → length r ≡ reply_bytes → served a t' ≡ serve E t c → five_of x ≡ numbers_of a → Replied code r' (five_of x)
-      → left code t' r' ≡ host E t r c
+  -- the call made, and its answer written
+  pub hosts_call : {code : ℕ} {t' r' : List ℕ} (a : Answer) → length r ≡ reply_bytes → served a t' ≡ serve E t c → Replied code r' (numbers_of a) → left code t' r' ≡ host E t r c
   unfolding host hosted
-  hosts_call {t' = t'} a x h s n w =
-      rw (eq-eqb (length r) reply_bytes h)
-      ((λ i. left (w.returned i) t' (w.written i)) ∙ ap (λ (y : Numbers). left y.code t' (reply_of y)) n ∙ ap hosted s)
+  hosts_call {t' = t'} a h s w = rw (eq-eqb (length r) reply_bytes h) ((λ i. left (w.returned i) t' (w.written i)) ∙ ap hosted s)

@@ -4,8 +4,6 @@ use Rattle.clock.specs.Map.{when◌then◌else◌}
 use Rattle.rules.specs.Engine.{Engine, ours}
 use Rattle.rules.specs.Refusals.{Refusals, first}
 use Rattle.rules.specs.Calls.{Call, words, serve}
-use Rattle.answers.specs.declared.Engine as answers
-use Rattle.answers.specs.Answers.{engine_of}
 use Rattle.reply.specs.Reply.{reply_bytes, reply_of}
 
 -- the returned code, and the bytes of the two buffers
@@ -32,8 +30,8 @@ abbrev pub Promise : (table reply : List ℕ) → Call → Hosted → Type 0
 Promise t r c o = o ≡ host ours t r c
 
 -- with the engine that is given
-abbrev pub PromiseBy : answers.Engine → (table reply : List ℕ) → Call → Hosted → Type 0
-PromiseBy e t r c o = o ≡ host (engine_of e) t r c
+abbrev pub PromiseBy : Engine → (table reply : List ℕ) → Call → Hosted → Type 0
+PromiseBy E t r c o = o ≡ host E t r c
 
 -- "a budget above 65,535 counts as 65,535"
 abbrev pub most_tries : ℕ

@@ -1,80 +1,64 @@
 // The calls that take their engine, as a C program makes them: with numbers, the table's bytes and a reply of 12 bytes.
-// Host numbers are 64 bits wide, so that none is cut on the way in; the value is 32.
+// Host numbers are 64 bits wide, as usize is, so that `as` cuts none on the way in; the value is 32. Each call begins
+// alike: a helper would take the rest as a closure over the lent table, which is no shorter.
 #![tactic(auto)]
 
 ghost use Rattle.std.specs.Prelude.{◌≡◌, min};
 ghost use Rattle.rules.specs.Calls.{Put, Get, Deliver, Drain, Touch, Adopt};
 ghost use Rattle.host.specs.Host.{left, PromiseBy, most_tries};
 
-use answers::Engine;
-use reply::{Reply, wrong_size};
+use reply::Reply;
+use rows::Engine;
+use touch::TouchRecord;
 
-pub fn put(
-    site: u64,
-    key: u64,
-    value: u32,
-    table: &mut [u8],
-    reply: &mut [u8],
-    engine: Engine,
-) -> u32
-    ensures { PromiseBy engine table.old reply.old (Put site key value) (left result table.new reply.new) }
+pub fn put<E: Engine>(site: u64, key: u64, value: u32, table: &mut [u8], reply: &mut [u8]) -> u32
+    ensures { PromiseBy E.engine table.old reply.old (Put site key value) (left result table.new reply.new) }
 {
-    if reply.len() != Reply::BYTES {
+    let Some(reply) = reply.as_mut_array() else {
         return Reply::WRONG_SIZE;
-    }
-    let a = table::put(table, site as usize, key as usize, value, engine);
-    reply::answer(reply, numbers::numbers_of(a))
+    };
+    let a = table::put::<E>(table, site as usize, key as usize, value);
+    reply::answer(reply, a)
 }
 
-pub fn get(site: u64, key: u64, table: &mut [u8], reply: &mut [u8], engine: Engine) -> u32
-    ensures { PromiseBy engine table.old reply.old (Get site key) (left result table.new reply.new) }
+pub fn get<E: Engine>(site: u64, key: u64, table: &mut [u8], reply: &mut [u8]) -> u32
+    ensures { PromiseBy E.engine table.old reply.old (Get site key) (left result table.new reply.new) }
 {
-    if reply.len() != Reply::BYTES {
+    let Some(reply) = reply.as_mut_array() else {
         return Reply::WRONG_SIZE;
-    }
-    let a = table::get(table, site as usize, key as usize, engine);
-    reply::answer(reply, numbers::numbers_of(a))
+    };
+    let a = table::get::<E>(table, site as usize, key as usize);
+    reply::answer(reply, a)
 }
 
-pub fn deliver(site: u64, origin: u64, table: &mut [u8], reply: &mut [u8], engine: Engine) -> u32
-    ensures { PromiseBy engine table.old reply.old (Deliver site origin) (left result table.new reply.new) }
+pub fn deliver<E: Engine>(site: u64, origin: u64, table: &mut [u8], reply: &mut [u8]) -> u32
+    ensures { PromiseBy E.engine table.old reply.old (Deliver site origin) (left result table.new reply.new) }
 {
-    if reply.len() != Reply::BYTES {
+    let Some(reply) = reply.as_mut_array() else {
         return Reply::WRONG_SIZE;
-    }
-    let a = deliver::deliver(table, site as usize, origin as usize, engine);
-    reply::answer(reply, numbers::numbers_of(a))
-}
-
-#[derive(Drop)]
-pub struct Budget {}
-
-impl Budget {
-    pub const MOST: u16 = 65535;
+    };
+    let a = deliver::deliver::<E>(table, site as usize, origin as usize);
+    reply::answer(reply, a)
 }
 
 // A budget above 65,535 counts as 65,535.
 fn tries_allowed(budget: u64) -> u16
     ensures { result ≡ min budget most_tries }
 {
-    if budget < Budget::MOST as u64 {
-        budget as u16
-    } else {
-        Budget::MOST
-    }
+    u16::try_from(budget).unwrap_or(u16::MAX)
 }
 
-pub fn drain(site: u64, budget: u64, table: &mut [u8], reply: &mut [u8], engine: Engine) -> u32
-    ensures { PromiseBy engine table.old reply.old (Drain site (min budget most_tries)) (left result table.new reply.new) }
+pub fn drain<E: Engine>(site: u64, budget: u64, table: &mut [u8], reply: &mut [u8]) -> u32
+    ensures { PromiseBy E.engine table.old reply.old (Drain site (min budget most_tries)) (left result table.new reply.new) }
 {
-    if reply.len() != Reply::BYTES {
+    let Some(reply) = reply.as_mut_array() else {
         return Reply::WRONG_SIZE;
-    }
-    let a = drain::drain(table, site as usize, tries_allowed(budget), engine);
-    reply::answer(reply, numbers::numbers_of(a))
+    };
+    let a = drain::drain::<E>(table, site as usize, tries_allowed(budget));
+    reply::answer(reply, a)
 }
 
-pub fn touch(
+pub fn touch<E: Engine>(
     site: u64,
     key: u64,
     hour: u64,
@@ -82,46 +66,42 @@ pub fn touch(
     tier: u64,
     table: &mut [u8],
     reply: &mut [u8],
-    engine: Engine,
 ) -> u32
-    ensures { PromiseBy engine table.old reply.old (Touch site key hour toucher tier) (left result table.new reply.new) }
+    ensures { PromiseBy E.engine table.old reply.old (Touch site key hour toucher tier) (left result table.new reply.new) }
 {
-    if reply.len() != Reply::BYTES {
-        return wrong_size(touch::words_refusal(hour as usize, toucher as usize, tier as usize));
-    }
-    let a = touch::touch(
+    let Some(reply) = reply.as_mut_array() else {
+        return reply::wrong_size(TouchRecord::new(hour as usize, toucher as usize, tier as usize));
+    };
+    let a = touch::touch::<E>(
         table,
         site as usize,
         key as usize,
         hour as usize,
         toucher as usize,
         tier as usize,
-        engine,
     );
-    reply::answer(reply, numbers::numbers_of(a))
+    reply::answer(reply, a)
 }
 
-pub fn adopt(
+pub fn adopt<E: Engine>(
     site: u64,
     key: u64,
     origin: u64,
     clock: u64,
     table: &mut [u8],
     reply: &mut [u8],
-    engine: Engine,
 ) -> u32
-    ensures { PromiseBy engine table.old reply.old (Adopt site key origin clock) (left result table.new reply.new) }
+    ensures { PromiseBy E.engine table.old reply.old (Adopt site key origin clock) (left result table.new reply.new) }
 {
-    if reply.len() != Reply::BYTES {
+    let Some(reply) = reply.as_mut_array() else {
         return Reply::WRONG_SIZE;
-    }
-    let a = look::adopt(
+    };
+    let a = look::adopt::<E>(
         table,
         site as usize,
         key as usize,
         origin as usize,
         clock as usize,
-        engine,
     );
-    reply::answer(reply, numbers::numbers_of(a))
+    reply::answer(reply, a)
 }

@@ -1,4 +1,5 @@
 pub mod Given
+pub mod Taken
 pub mod Tested
 pub mod Ready
 pub mod Bits

@@ -1,3 +1,4 @@
+pub mod Taken
 pub mod Theorems
 pub mod Touches
 pub mod Looks

@@ -2,24 +2,20 @@
 -- write the bytes is to change that part. Fields compose, so each place of the table is one. Assumes nothing.
 use mathlib.Core.Path.{◌≡◌, refl, sym, ap, ◌∙◌, subst, fun_ext}
 use mathlib.Core.Bool.{true, false}
-use mathlib.Core.List.{List, [], ◌++◌}
+use mathlib.Core.List.{List, [], ◌∷◌, ◌++◌, append_assoc}
 use mathlib.Core.Logic.{⊎_elim, ◌≢◌}
 use Prim.Native.Nat.{ℕ, ◌+◌, ◌*◌, ◌-◌, ◌≤◌, ◌<◌}
 use native.Mathlib.Nat.{suc-mul, mul-le-mul_right, add-zero}
 use native.Mathlib.Omega.{arith}
 use lib.Dec.{ltb}
-use lib.ListN.{length, get_or, take, drop, drop_of_length-le}
-use lib.Seq.{take_at, drop_at, take-nil, get_or-take, get_or-drop}
+use lib.ListN.{length, get_or, set, take, drop, drop_of_length-le}
+use lib.Seq.{take_at, drop_at, take-nil, get_or-take, get_or-drop, drop-drop, sets-eq}
 use borrow.Author.Tests.{ltb-true, ltb-false}
 use Rattle.clock.specs.Map.{◌⟨◌≔◌⟩}
 use Rattle.clock.proofs.Maps.{at_same, at_other, eq?, true_or_false}
 use Rattle.layout.specs.Codec.{Codec, number, ◌then◌, row, via}
-use Rattle.layout.proofs.Splice.{part, splice, part_part, length_part, length_splice, take_splice, splice_at, splice_before, drop_splice, splice_splice}
-
-pub record Field {A B : Type 0} (c : Codec A) (p : Codec B) (o : ℕ) (get : A → B) (put : A → B → A) : Type 0 where
-  pub inside : o + p.width ≤ c.width
-  pub reads : (l : List ℕ) → get (c.dec l) ≡ p.dec (part l o p.width)
-  pub writes : (l b : List ℕ) → length l ≡ c.width → length b ≡ p.width → c.dec (splice l o b) ≡ put (c.dec l) (p.dec b)
+use Rattle.layout.specs.Fields.{part, splice, Field}
+use Rattle.layout.proofs.Splice.{part_part, length_part, length_splice, take_splice, splice_at, splice_before, drop_splice, splice_splice}
 
 -- the same place under another number
 pub at_place : {A B : Type 0} {c : Codec A} {p : Codec B} {o o' : ℕ} {get : A → B} {put : A → B → A} → o ≡ o' → Field c p o get put → Field c p o' get put
@@ -122,7 +118,15 @@ module _ {A B : Type 0} {c : Codec A} {p : Codec B} {o : ℕ} {get : A → B} {p
       let e' : o + p.width - o ≡ length b = omega arith in
       ap (λ (n : ℕ). c.dec (take o l ++ (b ++ drop n (drop o l)))) e' ∙ f.writes l b hl hw
 
--- a single byte that is read by its index
+-- a single byte that is written and read by its index
+pub write_at : {A : Type 0} {c : Codec A} {o : ℕ} {get : A → ℕ} {put : A → ℕ → A} → Field c (number 1) o get put → (l : List ℕ) (v : ℕ) → length l ≡ c.width
+    → c.dec (set l o v) ≡ put (c.dec l) v
+write_at {c = c} {o = o} {put = put} f l v hl =
+    let fi = f.inside in
+    let e : 0 * 256 + v ≡ v = omega arith in
+    ap c.dec (sets-eq (v ∷ []) l o (omega arith) ∙ append_assoc (take o l) (v ∷ []) (drop (o + 1) l) ∙ ap (λ (r : List ℕ). take o l ++ (v ∷ r)) (sym (drop-drop 1 o l)))
+    ∙ f.writes l (v ∷ []) hl refl ∙ ap (put (c.dec l)) e
+
 pub read_byte : {A : Type 0} {c : Codec A} {o : ℕ} {get : A → ℕ} {put : A → ℕ → A} → Field c (number 1) o get put → (l : List ℕ) → get_or l o 0 ≡ get (c.dec l)
 read_byte {o = o} f l =
     let e : get_or (part l o 1) 0 0 ≡ get_or l o 0 = get_or-take 1 (drop o l) 0 0 (omega arith) ∙ get_or-drop o l 0 0 ∙ ap (λ (n : ℕ). get_or l n 0) (add-zero o) in

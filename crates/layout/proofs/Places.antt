@@ -1,91 +1,93 @@
 -- The places of the table as fields of the state. Assumes nothing.
-use mathlib.Core.Path.{◌≡◌, refl, sym, ap, ◌∙◌, fun_ext}
+use mathlib.Core.Path.{◌≡◌, refl, ap, ◌∙◌, fun_ext}
 use mathlib.Core.List.{List, ◌++◌}
-use lib.ListN.{length, get_or, take, drop, replicate}
-use Prim.Native.Nat.{ℕ, zero, suc, ◌+◌, ◌*◌, ◌-◌, ◌≤◌, ◌<◌}
+use lib.ListN.{length, get_or, set, take, drop, replicate}
+use Prim.Native.Nat.{ℕ, zero, suc, ◌+◌, ◌*◌, ◌≤◌, ◌<◌}
 use native.Mathlib.Omega.{arith}
 use Rattle.clock.specs.Map.{◌⟨◌≔◌⟩, ◌⟨◌⟩⟨◌≔◌⟩, up_to}
 use Rattle.clock.proofs.Cells.{cells_zeros, up_to_below, up_to_from}
 use Rattle.clock.specs.Vector.{Vector, zeros}
 use Rattle.layout.specs.Codec.{Codec, ◌then◌, row}
-use Rattle.layout.specs.State.{Fields, Entry, Update, Parts, byte, value, clock, vector, fields, square, entry, update, to_state, of_state, table, applied_at, depends_at, with_applied, with_depends, with_store, with_updates, to_entry, to_update, state_of}
-use Rattle.layout.specs.Records.{fields_at, cells2, rows, applied_place, depends_place, entry_place, update_place}
-use Rattle.layout.proofs.Splice.{part}
-use Rattle.layout.proofs.Fields.{Field, at_place, inner, first, second, element, clothed, read_part, write_part, read_byte}
+use Rattle.layout.specs.State.{Fields, Entry, Update, Parts, byte, value, clock, vector, fields, square, entry, update, to_state, of_state, table, applied_at, store_at, updates_at, with_store, with_updates, of_entry, of_update}
+use Rattle.layout.specs.Records.{fields_at, cells2, rows}
+use Rattle.layout.specs.Parts.{Square, applied, depends, square_at, square_of, with_square, Shelves, entries, updates, shelves_at, places, shelves_of, with_record}
+use Rattle.layout.specs.Fields.{part}
+use Rattle.layout.specs.Fields.{Field}
+use Rattle.layout.proofs.Fields.{at_place, inner, first, second, element, clothed, read_part, write_part, write_at, read_byte}
 
-abbrev updates : Codec (ℕ → ℕ → Update)
-updates = row 8 (row 16 update)
+abbrev updates_codec : Codec (ℕ → ℕ → Update)
+updates_codec = row 8 (row 16 update)
 
-abbrev store : Codec ((ℕ → ℕ → Entry) × (ℕ → ℕ → Update))
-store = row 8 (row 64 entry) then updates
+abbrev entries_codec : Codec (ℕ → ℕ → Entry)
+entries_codec = row 8 (row 64 entry)
 
-abbrev depends : Codec ((ℕ → Vector) × ((ℕ → ℕ → Entry) × (ℕ → ℕ → Update)))
-depends = square then store
+abbrev from_store : Codec ((ℕ → ℕ → Entry) × (ℕ → ℕ → Update))
+from_store = entries_codec then updates_codec
 
--- from the applied square on
-abbrev applied : Codec ((ℕ → Vector) × ((ℕ → Vector) × ((ℕ → ℕ → Entry) × (ℕ → ℕ → Update))))
-applied = square then depends
+abbrev from_depends : Codec ((ℕ → Vector) × ((ℕ → ℕ → Entry) × (ℕ → ℕ → Update)))
+from_depends = square then from_store
+
+abbrev from_applied : Codec ((ℕ → Vector) × ((ℕ → Vector) × ((ℕ → ℕ → Entry) × (ℕ → ℕ → Update))))
+from_applied = square then from_depends
 
 -- behind the four bytes of the header
-behind : Field (byte then byte then byte then byte then applied) applied applied_at (λ p. p.1.1.1.1) (λ p v. (p.0, (p.1.0, (p.1.1.0, (p.1.1.1.0, v)))))
+behind : Field (byte then byte then byte then byte then from_applied) from_applied applied_at (λ p. p.1.1.1.1) (λ p v. (p.0, (p.1.0, (p.1.1.0, (p.1.1.1.0, v)))))
 behind =
-    inner (second byte (byte then byte then byte then applied))
-    (inner (second byte (byte then byte then applied)) (inner (second byte (byte then applied)) (second byte applied)))
+    inner (second byte (byte then byte then byte then from_applied))
+    (inner (second byte (byte then byte then from_applied)) (inner (second byte (byte then from_applied)) (second byte from_applied)))
 
-abbrev in_table : {B : Type 0} {p : Codec B} {o : ℕ} {get : Parts → B} {put : Parts → B → Parts} → Field (byte then byte then byte then byte then applied) p o get put
+abbrev in_table : {B : Type 0} {p : Codec B} {o : ℕ} {get : Parts → B} {put : Parts → B → Parts} → Field (byte then byte then byte then byte then from_applied) p o get put
     → Field table p o (λ S. get (of_state S)) (λ S v. to_state (put (of_state S) v))
 in_table = clothed to_state of_state (λ a. refl)
 
 -- the header
 pub n_byte : Field table byte 0 (λ S. S.n) (λ S v. to_state (v, (of_state S).1))
-n_byte = in_table (first byte (byte then byte then byte then applied))
+n_byte = in_table (first byte (byte then byte then byte then from_applied))
 
 pub k_byte : Field table byte 1 (λ S. S.k) (λ S v. to_state (S.n, (v, (of_state S).1.1)))
-k_byte = in_table (inner (second byte (byte then byte then byte then applied)) (first byte (byte then byte then applied)))
+k_byte = in_table (inner (second byte (byte then byte then byte then from_applied)) (first byte (byte then byte then from_applied)))
 
 pub retired : Field table byte 2 (λ S. S.retired) (λ S v. to_state (S.n, (S.k, (v, (of_state S).1.1.1))))
 retired =
     in_table
-    (inner (second byte (byte then byte then byte then applied)) (inner (second byte (byte then byte then applied)) (first byte (byte then applied))))
+    (inner (second byte (byte then byte then byte then from_applied)) (inner (second byte (byte then byte then from_applied)) (first byte (byte then from_applied))))
 
 pub byte3 : Field table byte 3 (λ S. S.byte3) (λ S v. to_state (S.n, (S.k, (S.retired, (v, (of_state S).1.1.1.1)))))
 byte3 =
     in_table
-    (inner (second byte (byte then byte then byte then applied))
-    (inner (second byte (byte then byte then applied)) (inner (second byte (byte then applied)) (first byte applied))))
+    (inner (second byte (byte then byte then byte then from_applied))
+    (inner (second byte (byte then byte then from_applied)) (inner (second byte (byte then from_applied)) (first byte from_applied))))
 
--- the squares, their rows and their numbers
-pub applied_square : Field table square applied_at (λ S. S.applied) with_applied
-applied_square = in_table (inner behind (first square depends))
+-- the squares, and the shelves of records as their fields
+pub square_stands : (q : Square) → Field table square (square_at q) (square_of q) (with_square q)
+square_stands applied = in_table (inner behind (first square from_depends))
+square_stands depends = in_table (inner behind (inner (second square from_depends) (first square from_store)))
 
-pub depends_square : Field table square depends_at (λ S. S.depends) with_depends
-depends_square = in_table (inner behind (inner (second square depends) (first square store)))
+store_stands : Field table entries_codec store_at (λ S. S.store) with_store
+store_stands = in_table (inner behind (inner (second square from_depends) (inner (second square from_store) (first entries_codec updates_codec))))
 
-pub applied_number : (s o : ℕ) → s < 8 → o < 8
-    → Field table clock (applied_place s o) (λ S. S.applied s o) (λ S c. with_applied S (S.applied ⟨ s ⟩⟨ o ≔ c ⟩))
-applied_number s o hs ho = at_place (omega arith) (inner applied_square (inner (element vector 8 s hs) (element clock 8 o ho)))
+updates_stand : Field table updates_codec updates_at (λ S. S.updates) with_updates
+updates_stand = in_table (inner behind (inner (second square from_depends) (inner (second square from_store) (second entries_codec updates_codec))))
 
-pub depends_number : (s o : ℕ) → s < 8 → o < 8
-    → Field table clock (depends_place s o) (λ S. S.depends s o) (λ S c. with_depends S (S.depends ⟨ s ⟩⟨ o ≔ c ⟩))
-depends_number s o hs ho = at_place (omega arith) (inner depends_square (inner (element vector 8 s hs) (element clock 8 o ho)))
+-- a record of them, as its fields
+pub record_stands : (r : Shelves) (s x : ℕ) → s < 8 → x < places r
+    → Field table fields (shelves_at r + (s * places r + x) * fields.width) (λ S. shelves_of r S s x) (λ S p. with_record r S s x p)
+record_stands entries s x hs hx =
+    let f = inner store_stands (inner (element (row 64 entry) 8 s hs) (element entry 64 x hx)) in
+    at_place (omega arith) (record { inside = f.inside; reads = λ l. ap of_entry (f.reads l); writes = f.writes })
+record_stands updates o x ho hx =
+    let f = inner updates_stand (inner (element (row 16 update) 8 o ho) (element update 16 x hx)) in
+    at_place (omega arith) (record { inside = f.inside; reads = λ l. ap of_update (f.reads l); writes = f.writes })
 
-pub depends_row : (s : ℕ) → s < 8 → Field table vector (depends_at + s * vector.width) (λ S. S.depends s) (λ S v. with_depends S (S.depends ⟨ s ≔ v ⟩))
-depends_row s hs = inner depends_square (element vector 8 s hs)
+-- a number and a row of a square at their places
+module _ {A : Type 0} {c : Codec A} {at : ℕ} where
+  pub number_placed : {of : A → ℕ → Vector} {with : A → (ℕ → Vector) → A} → Field c square at of with → (s o : ℕ) → s < 8 → o < 8
+      → Field c clock (at + (s * 8 + o) * clock.width) (λ S. of S s o) (λ S n. with S ((of S) ⟨ s ⟩⟨ o ≔ n ⟩))
+  number_placed f s o hs ho = at_place (omega arith) (inner f (inner (element vector 8 s hs) (element clock 8 o ho)))
 
--- the entry of key x at site s, and the update at place p of origin o
-pub entry_placed : (s x : ℕ) → s < 8 → x < 64
-    → Field table entry (entry_place s x) (λ S. S.store s x) (λ S e. with_store S (S.store ⟨ s ⟩⟨ x ≔ e ⟩))
-entry_placed s x hs hx =
-    at_place (omega arith)
-    (inner (in_table (inner behind (inner (second square depends) (inner (second square store) (first (row 8 (row 64 entry)) updates)))))
-    (inner (element (row 64 entry) 8 s hs) (element entry 64 x hx)))
-
-pub update_placed : (o p : ℕ) → o < 8 → p < 16
-    → Field table update (update_place o p) (λ S. S.updates o p) (λ S u. with_updates S (S.updates ⟨ o ⟩⟨ p ≔ u ⟩))
-update_placed o p ho hp =
-    at_place (omega arith)
-    (inner (in_table (inner behind (inner (second square depends) (inner (second square store) (second (row 8 (row 64 entry)) updates)))))
-    (inner (element (row 16 update) 8 o ho) (element update 16 p hp)))
+  pub row_placed : {of : A → ℕ → Vector} {with : A → (ℕ → Vector) → A} → Field c square at of with → (s : ℕ) → s < 8
+      → Field c vector (at + s * vector.width) (λ S. of S s) (λ S v. with S ((of S) ⟨ s ≔ v ⟩))
+  row_placed f s hs = inner f (element vector 8 s hs)
 
 -- ## The places in an entry or an update
 
@@ -132,32 +134,31 @@ fields_read l i =
     (read_part value_field l i, (read_byte tag_field l i, (read_byte zero_field l i, (read_part clock_field l i, read_part depends_field l i))))
 
 -- the bytes after the five stores of an entry or an update
-module _ (l b₁ b₂ b₃ b₄ b₅ : List ℕ) where
+module _ (l value₁ : List ℕ) (tag none : ℕ) (clock₄ vector₅ : List ℕ) where
   abbrev l₁ : List ℕ
-  l₁ = b₁ ++ drop tag_at l
+  l₁ = value₁ ++ drop tag_at l
 
   abbrev l₂ : List ℕ
-  l₂ = take tag_at l₁ ++ (b₂ ++ drop 1 (drop tag_at l₁))
+  l₂ = set l₁ tag_at tag
 
   abbrev l₃ : List ℕ
-  l₃ = take zero_at l₂ ++ (b₃ ++ drop 1 (drop zero_at l₂))
+  l₃ = set l₂ zero_at none
 
   abbrev l₄ : List ℕ
-  l₄ = take clock_at l₃ ++ (b₄ ++ drop clock.width (drop clock_at l₃))
+  l₄ = take clock_at l₃ ++ (clock₄ ++ drop clock.width (drop clock_at l₃))
 
   pub fields_written : length l ≡ fields.width → length l₁ ≡ fields.width → length l₂ ≡ fields.width → length l₃ ≡ fields.width → length l₄ ≡ fields.width
-      → length b₁ ≡ length (take tag_at l) → length b₂ ≡ length (part l₁ tag_at 1) → length b₃ ≡ length (part l₂ zero_at 1)
-      → length b₄ ≡ length (part l₃ clock_at clock.width) → length b₅ ≡ length (part l₄ vector_at vector.width)
-      → fields_at (take vector_at l₄ ++ (b₅ ++ drop vector.width (drop vector_at l₄))) ≡ (value.dec b₁, (byte.dec b₂, (byte.dec b₃, (clock.dec b₄, vector.dec b₅))))
+      → length value₁ ≡ length (take tag_at l) → length clock₄ ≡ length (part l₃ clock_at clock.width) → length vector₅ ≡ length (part l₄ vector_at vector.width)
+      → fields_at (take vector_at l₄ ++ (vector₅ ++ drop vector.width (drop vector_at l₄))) ≡ (value.dec value₁, (tag, (none, (clock.dec clock₄, vector.dec vector₅))))
   unfolding fields_at
-  fields_written h h₁ h₂ h₃ h₄ k₁ k₂ k₃ k₄ k₅ =
-      write_part depends_field l₄ b₅ h₄ k₅
-      ∙ ap (λ (x : Fields). (x.0, (x.1.0, (x.1.1.0, (x.1.1.1.0, vector.dec b₅)))))
-      (write_part clock_field l₃ b₄ h₃ k₄
-      ∙ ap (λ (x : Fields). (x.0, (x.1.0, (x.1.1.0, (clock.dec b₄, x.1.1.1.1)))))
-      (write_part zero_field l₂ b₃ h₂ k₃
-      ∙ ap (λ (x : Fields). (x.0, (x.1.0, (byte.dec b₃, x.1.1.1))))
-      (write_part tag_field l₁ b₂ h₁ k₂ ∙ ap (λ (x : Fields). (x.0, (byte.dec b₂, x.1.1))) (write_part value_field l b₁ h k₁))))
+  fields_written h h₁ h₂ h₃ h₄ k₁ k₄ k₅ =
+      write_part depends_field l₄ vector₅ h₄ k₅
+      ∙ ap (λ (x : Fields). (x.0, (x.1.0, (x.1.1.0, (x.1.1.1.0, vector.dec vector₅)))))
+      (write_part clock_field l₃ clock₄ h₃ k₄
+      ∙ ap (λ (x : Fields). (x.0, (x.1.0, (x.1.1.0, (clock.dec clock₄, x.1.1.1.1)))))
+      (write_at zero_field l₂ none h₂
+      ∙ ap (λ (x : Fields). (x.0, (x.1.0, (none, x.1.1.1))))
+      (write_at tag_field l₁ tag h₁ ∙ ap (λ (x : Fields). (x.0, (tag, x.1.1))) (write_part value_field l value₁ h k₁))))
 
 -- a square of zeros
 pub cells2_zeros : (m k : ℕ) → cells2 (replicate m (replicate k 0)) ≡ λ i. zeros
@@ -182,12 +183,3 @@ clock_read l = ap (λ (p : Fields). p.1.1.1.0) (fields_read l)
 
 pub tag_read : (l : List ℕ) → get_or l tag_at 0 ≡ (fields_at l).1.0
 tag_read l = ap (λ (p : Fields). p.1.0) (fields_read l)
-
--- an entry and an update, read in their places as code does
-pub entry_read : (t : List ℕ) (s x : ℕ) {at : ℕ} → s < 8 → x < 64 → at ≡ entry_place s x → to_entry (fields_at (part t at (at + entry.width - at))) ≡ (state_of t).store s x
-unfolding fields_at state_of
-entry_read t s x hs hx e = read_part (at_place (sym e) (entry_placed s x hs hx)) t
-
-pub update_read : (t : List ℕ) (o p : ℕ) {at : ℕ} → o < 8 → p < 16 → at ≡ update_place o p → to_update (fields_at (part t at (at + update.width - at))) ≡ (state_of t).updates o p
-unfolding fields_at state_of
-update_read t o p ho hp e = read_part (at_place (sym e) (update_placed o p ho hp)) t

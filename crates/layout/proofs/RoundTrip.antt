@@ -14,7 +14,7 @@ use borrow.Author.Tests.{ltb-true, ltb-false}
 use Rattle.clock.proofs.Maps.{true_or_false}
 use Rattle.layout.specs.Codec.{Codec, digits, number_of, number, ◌then◌, in_row, row, via}
 use Rattle.layout.specs.Ranges.{Bytes}
-use Rattle.layout.proofs.Splice.{part}
+use Rattle.layout.specs.Fields.{part}
 use Rattle.layout.proofs.Fields.{row_past}
 
 bytes_take : (n : ℕ) (l : List ℕ) → Bytes l → Bytes (take n l)

@@ -2,24 +2,17 @@
 use mathlib.Core.Path.{◌≡◌, refl, sym, ap, ◌∙◌}
 use mathlib.Core.Bool.{true, false}
 use mathlib.Core.Logic.{⊎_elim}
-use mathlib.Core.List.{List, [], ◌∷◌, ◌++◌, append_assoc, append-nil}
+use mathlib.Core.List.{List, [], ◌∷◌, ◌++◌, append_assoc}
 use Prim.Native.Nat.{ℕ, zero, suc, ◌+◌, ◌-◌, ◌≤◌, ◌<◌}
 use native.Mathlib.Nat.{not-suc-le-zero, le_of_suc-le-suc, suc-add}
 use native.Mathlib.Omega.{arith}
 use borrow.Author.Tests.{ltb-true, ltb-false}
 use lib.Dec.{ltb}
-use lib.ListN.{length, get_or, take, drop, length-append, length-take, length-drop, take-append-drop, drop_of_length-le}
-use lib.Seq.{take-append-le, drop-append-le, take-add, drop-drop, length-take-le, take_at, drop_at, take-take, get_or-take, get_or-drop, sets, sets-eq}
+use lib.ListN.{length, get_or, take, drop, length-append, length-take, length-drop, take-append-drop}
+use lib.Seq.{take-append-le, drop-append-le, take-add, drop-drop, length-take-le, take_at, drop_at, take-take, get_or-take, get_or-drop}
 use Rattle.clock.proofs.Maps.{true_or_false}
 use Rattle.layout.specs.Ranges.{Zeros}
-
--- the w elements from o on
-abbrev pub part : List ℕ → (o w : ℕ) → List ℕ
-part l o w = take w (drop o l)
-
--- the list with b in the place of as many elements from o on
-abbrev pub splice : List ℕ → ℕ → List ℕ → List ℕ
-splice l o b = take o l ++ (b ++ drop (length b) (drop o l))
+use Rattle.layout.specs.Fields.{part, splice}
 
 part_take : (q : ℕ) (m : List ℕ) (w p : ℕ) → p + q ≤ w → part (take w m) p q ≡ part m p q
 part_take q m w zero k = take-take q w m (omega arith)
@@ -105,7 +98,3 @@ splice_splice l b o w p h k =
     (ap (λ (r : List ℕ). r ++ drop w m) (drop-drop (length b) p (take w m))
     ∙ drop_part m (p + length b) w h hm
     ∙ sym (drop-drop (length b) p m))))))
-
--- stores that fill a list
-pub stored : (vs l : List ℕ) → length vs ≡ length l → sets l 0 vs ≡ vs
-stored vs l h = sets-eq vs l 0 (omega arith) ∙ ap (λ (r : List ℕ). vs ++ r) (drop_of_length-le l {i = 0 + length vs} (omega arith)) ∙ append-nil vs

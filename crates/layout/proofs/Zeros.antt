@@ -3,21 +3,24 @@ use mathlib.Core.Path.{◌≡◌, refl, sym, ap, ◌∙◌, fun_ext}
 use mathlib.Core.List.{List, [], ◌∷◌, ◌++◌}
 use mathlib.Core.Bool.{true, false}
 use mathlib.Core.Logic.{⊎_elim, ◌↔◌}
-use Prim.Native.Nat.{ℕ, zero, suc, ◌+◌, ◌*◌, ◌-◌, ◌≤◌, ◌<◌}
+use Prim.Native.Nat.{ℕ, zero, suc, ◌+◌, ◌*◌, ◌-◌, ◌^◌, ◌≤◌, ◌<◌}
+use native.Mathlib.Nat.{zero-mul, one-le-pow, eq_of_mul-eq-mul_right}
 use native.Mathlib.Omega.{arith}
 use lib.Dec.{ltb}
 use lib.ListN.{length, get_or, take, drop, replicate, get_or-eq_default}
 use borrow.Author.Tests.{ltb-true, ltb-false}
 use Rattle.clock.proofs.Maps.{true_or_false}
 use Rattle.clock.proofs.Says.{below_suc}
-use lib.Seq.{get_or-take, get_or-drop}
+use lib.Seq.{get_or-drop}
+use Rattle.std.specs.Int.{sum_through, byte_worth}
 use Rattle.clock.specs.Vector.{Vector, zeros}
 use Rattle.clock.proofs.Cells.{cells_zeros}
 use Rattle.layout.specs.Codec.{Codec, digits, in_row, number, ◌then◌, row, via}
 use Rattle.layout.specs.State.{value, clock, fields, vector, to_entry, of_entry, to_update, of_update, to_state, of_state, table, all_zero, state_of}
 use Rattle.layout.specs.Ranges.{Bytes, Zeros}
 use Rattle.layout.specs.Records.{fields_at}
-use Rattle.layout.proofs.Splice.{part, get_d_part}
+use Rattle.layout.specs.Fields.{part}
+use Rattle.layout.proofs.Splice.{get_d_part}
 use Rattle.layout.proofs.TableTrips.{fields_lawful}
 
 -- a list that is zero up to its end
@@ -44,9 +47,6 @@ zeros_below l m w f z j h =
     ap (λ (i : ℕ). get_or l i 0) (sym i) ∙ sym (get_d_part l m w (j - m) (omega (arith, b))) ∙ z (j - m))
     (true_or_false (ltb j m))
 
-pub zeros_more : (l : List ℕ) (m w : ℕ) → length l ≤ m + w → Zeros (take m l) → Zeros (part l m w) → Zeros l
-zeros_more l m w h y z = zeros_long l (m + w) h (zeros_below l m w (λ j k. sym (get_or-take m l j 0 k) ∙ y j) z)
-
 -- bytes that are all zero read as z
 record Blank {A : Type 0} (c : Codec A) (z : A) : Type 0 where
   reads : (l : List ℕ) → Zeros l → c.dec l ≡ z
@@ -63,6 +63,23 @@ number_zero (suc w) l e j h = (below_suc (λ j. get_or l j 0 ≡ 0) w).0 (number
 -- so a number says whether its bytes are zero
 pub zeros_are : (w : ℕ) (l : List ℕ) → length l ≤ w → ((number w).dec l ≡ 0) ↔ Zeros l
 zeros_are w l h = ((λ e. zeros_long l w h (number_zero w l e)), zero_number w l)
+
+-- the same of a number whose first byte counts least
+low_zeros : (k : ℕ) (l : List ℕ) → sum_through (λ i. byte_worth i (get_or l i 0)) k ≡ 0 → (j : ℕ) → j < suc k → get_or l j 0 ≡ 0
+low_zeros zero l e zero h = e
+low_zeros zero l e (suc j) h = absurd (omega arith)
+low_zeros (suc k) l e j h =
+    let b : ℕ = get_or l (suc k) 0 in
+    let worth : b * 256 ^ suc k ≡ 0 = omega arith in
+    (below_suc (λ j. get_or l j 0 ≡ 0) (suc k)).0
+    (low_zeros k l (omega arith), eq_of_mul-eq-mul_right (256 ^ suc k) (one-le-pow (suc k) 256 (omega arith)) b 0 (worth ∙ sym (zero-mul (256 ^ suc k)))) j h
+
+zero_low : (k : ℕ) (l : List ℕ) → Zeros l → sum_through (λ i. byte_worth i (get_or l i 0)) k ≡ 0
+zero_low zero l h = h 0
+zero_low (suc k) l h = omega (arith, zero_low k l h, ap (λ (b : ℕ). b * 256 ^ suc k) (h (suc k)) ∙ zero-mul (256 ^ suc k))
+
+pub low_zeros_are : (k : ℕ) (l : List ℕ) → length l ≤ suc k → (sum_through (λ i. byte_worth i (get_or l i 0)) k ≡ 0) ↔ Zeros l
+low_zeros_are k l h = ((λ e. zeros_long l (suc k) h (low_zeros k l e)), zero_low k l)
 
 blank_number : (w : ℕ) → Blank (number w) 0
 blank_number w = record { reads = zero_number w }

@@ -1,11 +1,11 @@
 -- What the code's records and squares stand for. Assumes nothing.
-use Rattle.std.specs.Prelude.{◌≡◌, List, [], ℕ, ◌+◌, ◌*◌, get_or}
+use Rattle.std.specs.Prelude.{◌≡◌, List, [], ℕ, ◌+◌, get_or}
 use Rattle.clock.specs.Map.{up_to}
 use Rattle.clock.specs.Vector.{Vector, zeros}
 use Rattle.clock.specs.Clock.{cells, columns}
 use Rattle.layout.specs.declared.Record.{Record}
 use Rattle.layout.specs.declared.Header.{Header}
-use Rattle.layout.specs.State.{State, Entry, Update, Fields, clock, square, fields, entry, update, to_entry, to_update, applied_at, depends_at, store_at, updates_at}
+use Rattle.layout.specs.State.{State, Entry, Update, Fields, square, fields, to_entry, to_update, applied_at}
 
 -- a record of the code as its fields, as an entry and as an update
 abbrev pub fields_of : Record → Fields
@@ -38,20 +38,6 @@ quad = pair + pair
 
 abbrev pub word : ℕ
 word = quad + quad
-
--- where the count that site s has applied of o stands, and what s depends on of o
-abbrev pub applied_place : (s o : ℕ) → ℕ
-applied_place s o = applied_at + (s * 8 + o) * clock.width
-
-abbrev pub depends_place : (s o : ℕ) → ℕ
-depends_place s o = depends_at + (s * 8 + o) * clock.width
-
--- where the entry of key x at site s stands, and the update at place p of origin o
-abbrev pub entry_place : (s x : ℕ) → ℕ
-entry_place s x = store_at + (s * 64 + x) * entry.width
-
-abbrev pub update_place : (o p : ℕ) → ℕ
-update_place o p = updates_at + (o * 16 + p) * update.width
 
 -- a table is cleared by blocks of a square and the four bytes behind it
 abbrev pub block : ℕ

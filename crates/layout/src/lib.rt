@@ -1,16 +1,23 @@
 // The bytes of the table: numbers, clock vectors, entries and updates, read and written at their places.
 #![tactic(auto)]
 
-ghost use Rattle.std.specs.Prelude.{◌≡◌, ◌↔◌, ◌+◌, ◌*◌, ◌≤◌, ◌<◌, length};
+ghost use Rattle.std.specs.Prelude.{◌≡◌, refl, ◌↔◌, ℕ, ◌+◌, ◌*◌, ◌≤◌, ◌<◌, length};
 ghost use Rattle.clock.specs.Map.{◌⟨◌≔◌⟩, ◌⟨◌⟩⟨◌≔◌⟩};
 ghost use Rattle.clock.specs.Clock.{columns};
-ghost use Rattle.layout.specs.State.{byte, value, clock, last_clock, vector, square, fields, state_of, all_zero, with_counts, with_retired, with_applied, with_depends, with_store, with_updates, table};
+ghost use Rattle.layout.specs.State.{value, clock, last_clock, vector, square, fields, state_of, all_zero, with_counts, with_retired};
 ghost use Rattle.layout.specs.Ranges.{Zeros};
-ghost use Rattle.layout.specs.Records.{pair, quad, word, applied_place, depends_place, entry_place, update_place, block, Headed, cells2, rows, fields_at, fields_of, entry_of, update_of};
+ghost use Rattle.layout.specs.Parts as parts;
+ghost use Rattle.layout.specs.Parts.{square_at, square_of, with_square, shelves_at, places, shelves_of, with_record};
+ghost use Rattle.layout.specs.Records.{pair, quad, word, Headed, cells2, rows, fields_at, fields_of};
 
 use clock::Clock;
+use std::array;
 
-// An entry or an update: tag is the entry's origin or the update's key, zero its zero byte.
+// A table's bytes.
+pub type Bytes = [u8; Table::BYTES];
+
+// An entry or an update: tag is the entry's origin or the update's key, zero its zero byte. An entry of clock 0 was never
+// written: the table's own mark, whose zeros a get hands on.
 #[derive(Clone, Copy)]
 pub struct Record {
     pub value: u32,
@@ -28,8 +35,7 @@ pub struct Header {
     pub byte3: u8,
 }
 
-#[derive(Drop)]
-pub struct Table {}
+pub struct Table;
 
 impl Table {
     pub const SITES: usize = 8;
@@ -49,10 +55,8 @@ impl Table {
 
     pub const SQUARE: usize = Table::SITES * Table::VECTOR;
 
-    // Bytes that are read at once.
-    pub const QUAD: usize = 4;
-
-    pub const WORD: usize = Table::QUAD + Table::QUAD;
+    // The bytes that are read at once.
+    pub const WORD: usize = 8;
 
     // Where the fields of a record stand in it: its value, its tag, its zero byte, its clock, its vector.
     pub const RECORD_VALUE: usize = 0;
@@ -100,132 +104,92 @@ impl Table {
     pub const BLOCKS: usize = (Table::BYTES - Table::APPLIED) / Table::SQUARE;
 }
 
-pub fn wide(x: u16) -> usize
-    ensures { (result ≡ x) × (result ≤ last_clock) }
-{
-    x as usize
-}
-
-pub fn wide_byte(x: u8) -> usize
-    ensures { (result ≡ x) × (result < 256) }
-{
-    x as usize
-}
-
-fn clock_of(a: u8, b: u8) -> u16
-    ensures { result ≡ a * 256 + b }
-{
-    (a as u16) * 256 + (b as u16)
-}
-
-fn value_of(a: u8, b: u8, c: u8, d: u8) -> u32
-    ensures { result ≡ ((a * 256 + b) * 256 + c) * 256 + d }
-{
-    (((a as u32) * 256 + (b as u32)) * 256 + (c as u32)) * 256 + (d as u32)
-}
-
+// One for each width: a trait would have the same line in each impl. Byte by byte, since an array of a part of a slice would
+// be one more test.
 pub fn read_clock(s: &[u8]) -> u16
     requires { length s.now ≡ clock.width }
     ensures { result ≡ clock.dec s.now }
 {
-    clock_of(s[0], s[1])
+    u16::from_be_bytes([s[0], s[1]])
 }
 
 fn read_value(s: &[u8]) -> u32
     requires { length s.now ≡ value.width }
     ensures { result ≡ value.dec s.now }
 {
-    value_of(s[0], s[1], s[2], s[3])
+    u32::from_be_bytes([s[0], s[1], s[2], s[3]])
 }
 
-// Two, four and eight bytes at once, where only zero or not matters. The last byte counts most, so that the processors at
-// hand read them in one step.
-pub fn read_pair(s: &[u8]) -> u64
+// Two, four and eight bytes at once, where only zero or not matters. The last byte counts most, so that the processor
+// reads them in one step. One for each width, as std has them: a loop over the bytes would be longer than all three.
+pub fn read_pair(s: &[u8]) -> u16
     requires { length s.now ≡ pair }
-    ensures { ((result ≡ 0) ↔ Zeros s.now) × (result < 65536) }
+    ensures { (result ≡ 0) ↔ Zeros s.now }
 {
-    clock_of(s[1], s[0]) as u64
+    u16::from_le_bytes([s[0], s[1]])
 }
 
-pub fn read_quad(s: &[u8]) -> u64
+pub fn read_quad(s: &[u8]) -> u32
     requires { length s.now ≡ quad }
-    ensures { ((result ≡ 0) ↔ Zeros s.now) × (result < 4294967296) }
+    ensures { (result ≡ 0) ↔ Zeros s.now }
 {
-    value_of(s[3], s[2], s[1], s[0]) as u64
+    u32::from_le_bytes([s[0], s[1], s[2], s[3]])
 }
 
 pub fn read_word(s: &[u8]) -> u64
     requires { length s.now ≡ word }
     ensures { (result ≡ 0) ↔ Zeros s.now }
 {
-    read_quad(&s[Table::QUAD..Table::WORD]) * 4294967296 + read_quad(&s[0..Table::QUAD])
-}
-
-fn write_byte(s: &mut [u8], v: u8)
-    requires { length s.old ≡ byte.width }
-    ensures { byte.dec s.new ≡ v }
-{
-    s[0] = v;
+    u64::from_le_bytes([s[0], s[1], s[2], s[3], s[4], s[5], s[6], s[7]])
 }
 
 fn write_clock(s: &mut [u8], v: u16)
     requires { length s.old ≡ clock.width }
     ensures { clock.dec s.new ≡ v }
 {
-    s[0] = (v / 256) as u8;
-    s[1] = (v % 256) as u8;
+    s.copy_from_slice(&v.to_be_bytes());
 }
 
 fn write_value(s: &mut [u8], v: u32)
     requires { length s.old ≡ value.width }
     ensures { value.dec s.new ≡ v }
 {
-    s[0] = (v / 16777216) as u8;
-    s[1] = (v / 65536 % 256) as u8;
-    s[2] = (v / 256 % 256) as u8;
-    s[3] = (v % 256) as u8;
+    s.copy_from_slice(&v.to_be_bytes());
 }
 
 fn read_vector(s: &[u8]) -> Clock
     requires { length s.now ≡ vector.width }
     ensures { columns result ≡ vector.dec s.now }
 {
-    let mut a = [0u16; 8];
-    let mut i = 0;
-    while i < Table::SITES {
-        let at = i * Table::CLOCK;
-        a[i] = read_clock(&s[at..at + Table::CLOCK]);
-        i += 1;
+    Clock {
+        col: array::from_fn(|i| {
+            let at = i * Table::CLOCK;
+            read_clock(&s[at..at + Table::CLOCK])
+        }),
     }
-    Clock { col: a }
 }
 
+// By index: for a zip of chunks the proof did not close.
 fn write_vector(s: &mut [u8], c: Clock)
     requires { length s.old ≡ vector.width }
     ensures { vector.dec s.new ≡ columns c }
 {
-    let a = c.col;
-    let mut i = 0;
-    while i < Table::SITES {
+    for i in 0..Table::SITES {
         let at = i * Table::CLOCK;
-        write_clock(&mut s[at..at + Table::CLOCK], a[i]);
-        i += 1;
+        write_clock(&mut s[at..at + Table::CLOCK], c.col[i]);
     }
 }
 
-// The rows from `from` on and below `to` of a square of eight rows by eight columns.
+// The rows from `from` on and below `to` of a square of eight rows by eight columns. By index, since both ends are asked.
 fn read_rows(s: &[u8], from: usize, to: usize) -> [[u16; 8]; 8]
     requires { (length s.now ≡ square.width) × (from ≤ to) × (to ≤ 8) }
     ensures { cells2 result ≡ rows from to (square.dec s.now) }
 {
-    let mut a = [[0u16; 8]; 8];
-    let mut i = from;
-    while i < to {
+    let mut a = [[0; 8]; 8];
+    for i in from..to {
         let at = i * Table::VECTOR;
-        let row = read_vector(&s[at..at + Table::VECTOR]);
-        let col = row.col;
+        let Clock { col } = read_vector(&s[at..at + Table::VECTOR]);
         a[i] = col;
-        i += 1;
     }
     a
 }
@@ -234,15 +198,12 @@ fn read_record(s: &[u8]) -> Record
     requires { length s.now ≡ fields.width }
     ensures { fields_of result ≡ fields_at s.now }
 {
-    let value = read_value(&s[Table::RECORD_VALUE..Table::RECORD_TAG]);
-    let clock = read_clock(&s[Table::RECORD_CLOCK..Table::RECORD_VECTOR]);
-    let depends = read_vector(&s[Table::RECORD_VECTOR..Table::RECORD]);
     Record {
-        value: value,
+        value: read_value(&s[Table::RECORD_VALUE..Table::RECORD_TAG]),
         tag: s[Table::RECORD_TAG],
         zero: s[Table::RECORD_ZERO],
-        clock: clock,
-        depends: depends,
+        clock: read_clock(&s[Table::RECORD_CLOCK..Table::RECORD_VECTOR]),
+        depends: read_vector(&s[Table::RECORD_VECTOR..Table::RECORD]),
     }
 }
 
@@ -251,17 +212,15 @@ fn write_record(s: &mut [u8], r: Record)
     requires { length s.old ≡ fields.width }
     ensures { fields_at s.new ≡ fields_of r }
 {
-    let depends = r.depends;
     write_value(&mut s[Table::RECORD_VALUE..Table::RECORD_TAG], r.value);
-    write_byte(&mut s[Table::RECORD_TAG..Table::RECORD_ZERO], r.tag);
-    write_byte(&mut s[Table::RECORD_ZERO..Table::RECORD_CLOCK], r.zero);
+    s[Table::RECORD_TAG] = r.tag;
+    s[Table::RECORD_ZERO] = r.zero;
     write_clock(&mut s[Table::RECORD_CLOCK..Table::RECORD_VECTOR], r.clock);
-    write_vector(&mut s[Table::RECORD_VECTOR..Table::RECORD], depends);
+    write_vector(&mut s[Table::RECORD_VECTOR..Table::RECORD], r.depends);
 }
 
 // The header: n, k and the two bytes after them.
-pub fn read_header(t: &[u8]) -> Header
-    requires { length t.now ≡ table.width }
+pub fn read_header(t: &Bytes) -> Header
     ensures { Headed result (state_of t.now) }
 {
     Header {
@@ -272,158 +231,185 @@ pub fn read_header(t: &[u8]) -> Header
     }
 }
 
-pub fn set_counts(t: &mut [u8], n: u8, k: u8)
-    requires { length t.old ≡ table.width }
+pub fn set_counts(t: &mut Bytes, n: u8, k: u8)
     ensures { state_of t.new ≡ with_counts (state_of t.old) n k }
 {
-    write_byte(&mut t[Table::SITE_COUNT..Table::KEY_COUNT], n);
-    write_byte(&mut t[Table::KEY_COUNT..Table::RETIRED], k);
+    t[Table::SITE_COUNT] = n;
+    t[Table::KEY_COUNT] = k;
 }
 
-pub fn set_retired(t: &mut [u8], retired: u8)
-    requires { length t.old ≡ table.width }
+pub fn set_retired(t: &mut Bytes, retired: u8)
     ensures { state_of t.new ≡ with_retired (state_of t.old) retired }
 {
-    write_byte(&mut t[Table::RETIRED..Table::BYTE_3], retired);
-}
-
-fn clear_block(s: &mut [u8])
-    requires { length s.old ≡ block }
-    ensures { Zeros s.new }
-{
-    let mut i = 0;
-    while i < Table::BLOCK {
-        s[i] = 0;
-        i += 1;
-    }
+    t[Table::RETIRED] = retired;
 }
 
 // All bytes zero. The blocks overlap, or the compiler would make of them a call of the host's memset.
-pub fn clear(t: &mut [u8])
-    requires { length t.old ≡ table.width }
+pub fn clear(t: &mut Bytes)
     ensures { state_of t.new ≡ all_zero }
 {
-    let mut i = 0;
-    while i < Table::BLOCKS {
+    for i in 0..Table::BLOCKS {
         let at = i * Table::SQUARE;
-        clear_block(&mut t[at..at + Table::BLOCK]);
-        i += 1;
+        t[at..at + Table::BLOCK].fill(0);
     }
 }
 
-// Where a number of the squares, an entry and an update stand.
-pub fn applied_place(s: usize, o: usize) -> usize
+// A square of eight rows by eight columns in the table, a row for each site.
+pub trait Square {
+    const AT: usize;
+
+    ghost AT: { ℕ };
+
+    ghost which: { parts.Square };
+
+    ghost begins: { AT ≡ square_at which };
+}
+
+// How many puts of each origin a site has applied.
+pub struct Applied;
+
+impl Square for Applied {
+    const AT: usize = Table::APPLIED;
+
+    ghost AT = { square_at parts.applied };
+
+    ghost which = { parts.applied };
+
+    ghost begins = { refl };
+}
+
+// What a site depends on.
+pub struct Depends;
+
+impl Square for Depends {
+    const AT: usize = Table::DEPENDS;
+
+    ghost AT = { square_at parts.depends };
+
+    ghost which = { parts.depends };
+
+    ghost begins = { refl };
+}
+
+// Where a number of a square stands. Here and above, a site below 8 and a key below 64 are asked as an index is: a type for
+// them would be made anew at every turn of a loop over sites.
+pub fn place<Q: Square>(s: usize, o: usize) -> usize
     requires { (s < 8) × (o < 8) }
-    ensures { result ≡ applied_place s o }
+    ensures { result ≡ square_at Q.which + (s * 8 + o) * clock.width }
 {
-    Table::APPLIED + (s * Table::SITES + o) * Table::CLOCK
+    Q::AT + (s * Table::SITES + o) * Table::CLOCK
 }
 
-fn depends_place(s: usize, o: usize) -> usize
+// Its rows from one on and below another, as an array of arrays, which document 01 names; zeros elsewhere.
+pub fn rows<Q: Square>(t: &Bytes, from: usize, to: usize) -> [[u16; 8]; 8]
+    requires { (from ≤ to) × (to ≤ 8) }
+    ensures { cells2 result ≡ rows from to (square_of Q.which (state_of t.now)) }
+{
+    let at = Q::AT;
+    read_rows(&t[at..at + Table::SQUARE], from, to)
+}
+
+// One number of it.
+pub fn at<Q: Square>(t: &Bytes, s: usize, o: usize) -> u16
     requires { (s < 8) × (o < 8) }
-    ensures { result ≡ depends_place s o }
+    ensures { result ≡ square_of Q.which (state_of t.now) s o }
 {
-    Table::DEPENDS + (s * Table::SITES + o) * Table::CLOCK
-}
-
-pub fn entry_place(s: usize, x: usize) -> usize
-    requires { (s < 8) × (x < 64) }
-    ensures { result ≡ entry_place s x }
-{
-    Table::STORE + (s * Table::KEYS + x) * Table::RECORD
-}
-
-pub fn update_place(o: usize, p: usize) -> usize
-    requires { (o < 8) × (p < 16) }
-    ensures { result ≡ update_place o p }
-{
-    Table::UPDATES + (o * Table::PLACES + p) * Table::RECORD
-}
-
-// Rows of the applied counts and of the dependencies, a row for each site.
-pub fn applied(t: &[u8], from: usize, to: usize) -> [[u16; 8]; 8]
-    requires { (length t.now ≡ table.width) × (from ≤ to) × (to ≤ 8) }
-    ensures { cells2 result ≡ rows from to (state_of t.now).applied }
-{
-    read_rows(&t[Table::APPLIED..Table::APPLIED + Table::SQUARE], from, to)
-}
-
-pub fn depends(t: &[u8], from: usize, to: usize) -> [[u16; 8]; 8]
-    requires { (length t.now ≡ table.width) × (from ≤ to) × (to ≤ 8) }
-    ensures { cells2 result ≡ rows from to (state_of t.now).depends }
-{
-    read_rows(&t[Table::DEPENDS..Table::DEPENDS + Table::SQUARE], from, to)
-}
-
-// One number of them.
-pub fn applied_at(t: &[u8], s: usize, o: usize) -> u16
-    requires { (length t.now ≡ table.width) × (s < 8) × (o < 8) }
-    ensures { result ≡ (state_of t.now).applied s o }
-{
-    let at = applied_place(s, o);
+    let at = place::<Q>(s, o);
     read_clock(&t[at..at + Table::CLOCK])
 }
 
-pub fn depends_at(t: &[u8], s: usize, o: usize) -> u16
-    requires { (length t.now ≡ table.width) × (s < 8) × (o < 8) }
-    ensures { result ≡ (state_of t.now).depends s o }
+pub fn set<Q: Square>(t: &mut Bytes, s: usize, o: usize, c: u16)
+    requires { (s < 8) × (o < 8) }
+    ensures { state_of t.new ≡ with_square Q.which (state_of t.old) ((square_of Q.which (state_of t.old)) ⟨ s ⟩⟨ o ≔ c ⟩) }
 {
-    let at = depends_place(s, o);
-    read_clock(&t[at..at + Table::CLOCK])
-}
-
-pub fn entry_at(t: &[u8], s: usize, x: usize) -> Record
-    requires { (length t.now ≡ table.width) × (s < 8) × (x < 64) }
-    ensures { entry_of result ≡ (state_of t.now).store s x }
-{
-    let at = entry_place(s, x);
-    read_record(&t[at..at + Table::RECORD])
-}
-
-pub fn update_at(t: &[u8], o: usize, p: usize) -> Record
-    requires { (length t.now ≡ table.width) × (o < 8) × (p < 16) }
-    ensures { update_of result ≡ (state_of t.now).updates o p }
-{
-    let at = update_place(o, p);
-    read_record(&t[at..at + Table::RECORD])
-}
-
-pub fn set_applied(t: &mut [u8], s: usize, o: usize, c: u16)
-    requires { (length t.old ≡ table.width) × (s < 8) × (o < 8) }
-    ensures { state_of t.new ≡ with_applied (state_of t.old) ((state_of t.old).applied ⟨ s ⟩⟨ o ≔ c ⟩) }
-{
-    let at = applied_place(s, o);
+    let at = place::<Q>(s, o);
     write_clock(&mut t[at..at + Table::CLOCK], c);
 }
 
-pub fn set_depends_at(t: &mut [u8], s: usize, o: usize, c: u16)
-    requires { (length t.old ≡ table.width) × (s < 8) × (o < 8) }
-    ensures { state_of t.new ≡ with_depends (state_of t.old) ((state_of t.old).depends ⟨ s ⟩⟨ o ≔ c ⟩) }
+pub fn set_row<Q: Square>(t: &mut Bytes, s: usize, v: Clock)
+    requires { s < 8 }
+    ensures { state_of t.new ≡ with_square Q.which (state_of t.old) ((square_of Q.which (state_of t.old)) ⟨ s ≔ columns v ⟩) }
 {
-    let at = depends_place(s, o);
-    write_clock(&mut t[at..at + Table::CLOCK], c);
-}
-
-pub fn set_depends(t: &mut [u8], s: usize, v: Clock)
-    requires { (length t.old ≡ table.width) × (s < 8) }
-    ensures { state_of t.new ≡ with_depends (state_of t.old) ((state_of t.old).depends ⟨ s ≔ columns v ⟩) }
-{
-    let at = Table::DEPENDS + s * Table::VECTOR;
+    let at = Q::AT + s * Table::VECTOR;
     write_vector(&mut t[at..at + Table::VECTOR], v);
 }
 
-pub fn set_entry(t: &mut [u8], s: usize, x: usize, e: Record)
-    requires { (length t.old ≡ table.width) × (s < 8) × (x < 64) }
-    ensures { state_of t.new ≡ with_store (state_of t.old) ((state_of t.old).store ⟨ s ⟩⟨ x ≔ entry_of e ⟩) }
-{
-    let at = entry_place(s, x);
-    write_record(&mut t[at..at + Table::RECORD], e);
+// Eight shelves of records in the table, each with as many places: apart from squares, whose numbers are read and written
+// another way.
+pub trait Shelves {
+    const AT: usize;
+
+    const PLACES: usize;
+
+    ghost AT: { ℕ };
+
+    ghost PLACES: { ℕ };
+
+    ghost which: { parts.Shelves };
+
+    ghost begins: { AT ≡ shelves_at which };
+
+    ghost holds: { PLACES ≡ places which };
 }
 
-pub fn set_update(t: &mut [u8], o: usize, p: usize, u: Record)
-    requires { (length t.old ≡ table.width) × (o < 8) × (p < 16) }
-    ensures { state_of t.new ≡ with_updates (state_of t.old) ((state_of t.old).updates ⟨ o ⟩⟨ p ≔ update_of u ⟩) }
+// The entries of each site, by key.
+pub struct Entries;
+
+impl Shelves for Entries {
+    const AT: usize = Table::STORE;
+
+    const PLACES: usize = Table::KEYS;
+
+    ghost AT = { shelves_at parts.entries };
+
+    ghost PLACES = { 64 };
+
+    ghost which = { parts.entries };
+
+    ghost begins = { refl };
+
+    ghost holds = { refl };
+}
+
+// The updates of each origin, by place.
+pub struct Updates;
+
+impl Shelves for Updates {
+    const AT: usize = Table::UPDATES;
+
+    const PLACES: usize = Table::PLACES;
+
+    ghost AT = { shelves_at parts.updates };
+
+    ghost PLACES = { 16 };
+
+    ghost which = { parts.updates };
+
+    ghost begins = { refl };
+
+    ghost holds = { refl };
+}
+
+// Where a record of a shelf stands.
+pub fn record_place<R: Shelves>(s: usize, x: usize) -> usize
+    requires { (s < 8) × (x < places R.which) }
+    ensures { result ≡ shelves_at R.which + (s * places R.which + x) * fields.width }
 {
-    let at = update_place(o, p);
-    write_record(&mut t[at..at + Table::RECORD], u);
+    R::AT + (s * R::PLACES + x) * Table::RECORD
+}
+
+pub fn record_at<R: Shelves>(t: &Bytes, s: usize, x: usize) -> Record
+    requires { (s < 8) × (x < places R.which) }
+    ensures { fields_of result ≡ shelves_of R.which (state_of t.now) s x }
+{
+    let at = record_place::<R>(s, x);
+    read_record(&t[at..at + Table::RECORD])
+}
+
+pub fn set_record<R: Shelves>(t: &mut Bytes, s: usize, x: usize, r: Record)
+    requires { (s < 8) × (x < places R.which) }
+    ensures { state_of t.new ≡ with_record R.which (state_of t.old) s x (fields_of r) }
+{
+    let at = record_place::<R>(s, x);
+    write_record(&mut t[at..at + Table::RECORD], r);
 }

@@ -1,105 +1,80 @@
 // A get in two: look, and adopt of what was seen.
 #![tactic(auto)]
 
-ghost use Rattle.std.specs.Prelude.{◌≡◌, ◌≤◌, length};
-ghost use Rattle.layout.specs.State.{state_of, table};
+ghost use Rattle.std.specs.Prelude.{◌≡◌, ◌<◌};
+ghost use Rattle.layout.specs.State.{state_of};
 ghost use Rattle.rules.specs.Refusals.{first};
-ghost use Rattle.rules.specs.Calls.{Look, Adopt, asks};
-ghost use Rattle.answers.specs.Answers.{code_of, served, Promise, PromiseBy};
-ghost use Rattle.rows.specs.Rows.{EntryFits};
+ghost use Rattle.rules.specs.Calls.{Look, Adopt, refusals};
+ghost use Rattle.answers.specs.Answers.{asked, served, Promise, PromiseBy};
 ghost use Rattle.look.specs.Asked.{entry_in, named_in};
 
-use answers::{Answer, Engine, Refusal};
+use answers::{Answer, Done, Refusal};
+use layout::{Bytes, Entries};
+use rows::Engine;
+use sound::Counts;
 
 pub fn look(t: &[u8], s: usize, x: usize) -> Answer
     ensures { Promise t.now (Look s x) (served result t.now) }
 {
-    let why = refusals::get_refusal(t, s, x);
-    match why {
-        Refusal::Nothing => {
-            let seen = layout::entry_at(t, s, x);
-            Answer::Done {
-                key: x as u8,
-                site: seen.tag,
-                clock: seen.clock,
-                value: seen.value,
-            }
-        }
-        _ => Answer::Refused(why),
-    }
+    let t = t.as_array().ok_or(Refusal::Size)?;
+    refusals::get_refusal(t, s, x)?;
+    let seen = layout::record_at::<Entries>(t, s, x);
+    Ok(Done::Call {
+        key: x as u8,
+        site: seen.tag,
+        clock: seen.clock,
+        value: seen.value,
+    })
 }
 
 // 15: the entry has another origin or clock. Both are compared as they came, so that none is cut.
-fn entry_refusal(t: &[u8], s: usize, x: usize, o: usize, c: usize) -> Refusal
-    requires { EntryFits t.now s x }
-    ensures { code_of result ≡ first (entry_in ((state_of t.now).store s x) o c) }
+fn entry_refusal(t: &Bytes, s: usize, x: usize, o: usize, c: usize) -> Result<(), Refusal>
+    requires { (s < 8) × (x < 64) }
+    ensures { asked result ≡ first (entry_in ((state_of t.now).store s x) o c) }
 {
-    let e = layout::entry_at(t, s, x);
-    if layout::wide_byte(e.tag) != o {
-        return Refusal::Changed;
+    let e = layout::record_at::<Entries>(t, s, x);
+    if usize::from(e.tag) != o || usize::from(e.clock) != c {
+        return Err(Refusal::Changed);
     }
-    if layout::wide(e.clock) != c {
-        return Refusal::Changed;
-    }
-    Refusal::Nothing
+    Ok(())
 }
 
 // 4 of the site or the named origin, 16 of the site, 6, then 15.
-fn named_refusal(t: &[u8], n: usize, k: usize, s: usize, x: usize, o: usize, c: usize) -> Refusal
-    requires { (length t.now ≡ table.width) × (n ≤ 8) × (k ≤ 64) }
-    ensures { code_of result ≡ first (named_in (state_of t.now) n k s x o c) }
+fn named_refusal(
+    t: &Bytes,
+    counts: Counts,
+    s: usize,
+    x: usize,
+    o: usize,
+    c: usize,
+) -> Result<(), Refusal>
+    ensures { asked result ≡ first (named_in (state_of t.now) counts.sites counts.keys s x o c) }
 {
-    if n <= s {
-        return Refusal::Site;
+    if counts.sites <= o {
+        return Err(Refusal::Site);
     }
-    if n <= o {
-        return Refusal::Site;
-    }
-    if refusals::gone(t, s) {
-        return Refusal::Retired;
-    }
-    if k <= x {
-        return Refusal::Key;
-    }
+    refusals::names_refusal(t, counts, s, x)?;
     entry_refusal(t, s, x, o, c)
 }
 
-fn adopt_refusal(t: &[u8], s: usize, x: usize, o: usize, c: usize) -> Refusal
-    ensures { code_of result ≡ first (asks t.now (Adopt s x o c)) }
+fn adopt_refusal(t: &Bytes, s: usize, x: usize, o: usize, c: usize) -> Result<(), Refusal>
+    ensures { asked result ≡ first (refusals (state_of t.now) (Adopt s x o c)) }
 {
-    let why = refusals::table_refusal(t);
-    match why {
-        Refusal::Nothing => {
-            let h = layout::read_header(t);
-            named_refusal(
-                t,
-                layout::wide_byte(h.n),
-                layout::wide_byte(h.k),
-                s,
-                x,
-                o,
-                c,
-            )
-        }
-        _ => why,
-    }
+    let counts = refusals::table_refusal(t)?;
+    named_refusal(t, counts, s, x, o, c)
 }
 
 // Of an entry that is as named: its step is get's, and so is its answer.
-pub fn adopt(t: &mut [u8], s: usize, x: usize, o: usize, c: usize, engine: Engine) -> Answer
-    ensures { PromiseBy engine t.old (Adopt s x o c) (served result t.new) }
+pub fn adopt<E: Engine>(t: &mut [u8], s: usize, x: usize, o: usize, c: usize) -> Answer
+    ensures { PromiseBy E.engine t.old (Adopt s x o c) (served result t.new) }
 {
-    let why = adopt_refusal(t, s, x, o, c);
-    match why {
-        Refusal::Nothing => {
-            let e = table::get_step(t, s, x, engine);
-            Answer::Done {
-                key: x as u8,
-                site: e.tag,
-                clock: e.clock,
-                value: e.value,
-            }
-        }
-        _ => Answer::Refused(why),
-    }
+    let t = t.as_mut_array().ok_or(Refusal::Size)?;
+    adopt_refusal(t, s, x, o, c)?;
+    let e = table::get_step::<E>(t, s, x);
+    Ok(Done::Call {
+        key: x as u8,
+        site: e.tag,
+        clock: e.clock,
+        value: e.value,
+    })
 }

@@ -6,10 +6,11 @@ ghost use Rattle.rules.specs.Steps.{refused};
 ghost use Rattle.answers.specs.Answers.{numbers_of};
 ghost use Rattle.numbers.specs.Five.{five_of};
 
-use answers::Answer;
+use answers::{Answer, Done, Unserved};
 
-#[derive(Clone, Copy)]
+#[derive(Clone, Copy, Debug, PartialEq, Eq)]
 pub struct Five {
+    // A number, as the reply for C and a schedule's line have it.
     pub code: u8,
     pub key: u8,
     pub site: u8,
@@ -21,7 +22,7 @@ pub fn refused(code: u8) -> Five
     ensures { five_of result ≡ refused code }
 {
     Five {
-        code: code,
+        code,
         key: 0,
         site: 0,
         clock: 0,
@@ -29,43 +30,47 @@ pub fn refused(code: u8) -> Five
     }
 }
 
-fn counted(code: u8, deliveries: u16, tries: u16) -> Five
-    ensures { five_of result ≡ record { code = code; key = 0; site = 0; clock = deliveries; value = tries } }
-{
-    Five {
-        code: code,
-        key: 0,
-        site: 0,
-        clock: deliveries,
-        value: tries as u32,
-    }
-}
+impl From<Answer> for Five {
+    ghost from_gives = { λ a x. five_of x ≡ numbers_of a };
 
-pub fn numbers_of(a: Answer) -> Five
-    ensures { five_of result ≡ numbers_of a }
-{
-    match a {
-        Answer::Done {
-            key,
-            site,
-            clock,
-            value,
-        } => Five {
-            code: 0,
-            key: key,
-            site: site,
-            clock: clock,
-            value: value,
-        },
-        Answer::Missing { site, clock, mask } => Five {
-            code: 10,
-            key: 0,
-            site: site,
-            clock: clock,
-            value: mask as u32,
-        },
-        Answer::Drained { deliveries, tries } => counted(0, deliveries, tries),
-        Answer::Stopped { deliveries, tries } => counted(11, deliveries, tries),
-        Answer::Refused(_) => refused(answers::code(a)),
+    fn from(a: Answer) -> Five {
+        match a {
+            Ok(
+                Done::Call {
+                    key,
+                    site,
+                    clock,
+                    value,
+                },
+            ) => Five {
+                code: 0,
+                key,
+                site,
+                clock,
+                value,
+            },
+            Ok(Done::Drain { deliveries, tries }) => Five {
+                code: 0,
+                key: 0,
+                site: 0,
+                clock: deliveries,
+                value: u32::from(tries),
+            },
+            Err(Unserved::Missing { site, clock, mask }) => Five {
+                code: 10,
+                key: 0,
+                site,
+                clock,
+                value: u32::from(mask),
+            },
+            Err(Unserved::Stopped { deliveries, tries }) => Five {
+                code: 11,
+                key: 0,
+                site: 0,
+                clock: deliveries,
+                value: u32::from(tries),
+            },
+            Err(Unserved::Refused(r)) => refused(u8::from(r)),
+        }
     }
 }

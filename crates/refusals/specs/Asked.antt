@@ -1,13 +1,17 @@
 -- Parts of the lists of refusals, over the numbers that the code has at hand. Assumes nothing.
-use Rattle.std.specs.Prelude.{◌≡◌, Bool, false, not, ◌&&◌, ◌||◌, List, [], ◌∷◌, ◌≢◌, ℕ, ◌+◌, ◌<◌, eqb, leb, length}
+use Rattle.std.specs.Prelude.{◌≡◌, Bool, false, not, ◌&&◌, ◌||◌, [], ◌∷◌, ◌≢◌, ℕ, ◌+◌, ◌<◌, eqb, leb}
 use Rattle.clock.specs.Map.{any}
-use Rattle.layout.specs.State.{State, state_of, last_clock, table}
+use Rattle.layout.specs.State.{State, last_clock}
 use Rattle.rules.specs.Live.{gone}
 use Rattle.rules.specs.Sound.{sound, Sound}
 use Rattle.rules.specs.Refusals.{Refusals}
+use Rattle.sound.specs.declared.Counts.{Counts}
 
-abbrev pub table_in : List ℕ → Refusals
-table_in t = (1, not (eqb (length t) table.width)) ∷ (2, not (sound (state_of t))) ∷ []
+abbrev pub sound_in : State → Refusals
+sound_in S = (2, not (sound S)) ∷ []
+
+abbrev pub live_in : State → (n s : ℕ) → Refusals
+live_in S n s = (4, leb n s) ∷ (16, gone S s) ∷ []
 
 abbrev pub names_in : State → (n k s x : ℕ) → Refusals
 names_in S n k s x = (4, leb n s) ∷ (16, gone S s) ∷ (6, leb k x) ∷ []
@@ -21,14 +25,19 @@ full_in S n s = any n (λ t. not (gone S t) && eqb (S.applied t s + 16) (S.appli
 abbrev pub room_in : State → (n s : ℕ) → Refusals
 room_in S n s = (7, eqb (S.applied s s) last_clock) ∷ (8, full_in S n s) ∷ []
 
-abbrev pub deliver_in : List ℕ → (s o : ℕ) → Refusals
-deliver_in t s o = (1, not (eqb (length t) table.width)) ∷ (2, not (sound (state_of t))) ∷ sites_in (state_of t) (state_of t).n s o
+-- what is asked of a delivery but 9 and 10
+abbrev pub receives_in : State → (s o : ℕ) → Refusals
+receives_in S s o = (2, not (sound S)) ∷ sites_in S S.n s o
+
+-- the counts of the state
+pub record Counted (S : State) (c : Counts) : Type 0 where
+  pub sites : c.sites ≡ S.n
+  pub keys : c.keys ≡ S.k
 
 -- a sound table, and two of its sites, of which s is live
-pub record Attempts (t : List ℕ) (s o : ℕ) : Type 0 where
-  pub size : length t ≡ table.width
-  pub sound : Sound (state_of t)
-  pub site : s < (state_of t).n
-  pub origin : o < (state_of t).n
+pub record Attempts (S : State) (s o : ℕ) : Type 0 where
+  pub sound : Sound S
+  pub site : s < S.n
+  pub origin : o < S.n
   pub others : s ≢ o
-  pub live : gone (state_of t) s ≡ false
+  pub live : gone S s ≡ false

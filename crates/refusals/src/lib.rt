@@ -1,33 +1,29 @@
-// Why a call is refused: the conditions that calls share, over a lent buffer, and those of get, put and deliver.
+// Why a call is refused: the conditions that calls share, of a table's bytes, and those of get, put and deliver.
 #![tactic(auto)]
 
-ghost use Rattle.std.specs.Prelude.{◌≡◌, not, ◌&&◌, ◌+◌, ◌≤◌, ◌<◌, eqb, length};
-ghost use Rattle.layout.specs.State.{state_of, table};
+ghost use Rattle.std.specs.Prelude.{◌≡◌, not, ◌&&◌, ◌+◌, ◌<◌, eqb, IfOk};
+ghost use Rattle.layout.specs.State.{state_of};
 ghost use Rattle.rules.specs.Live.{gone};
 ghost use Rattle.rules.specs.Refusals.{first};
-ghost use Rattle.rules.specs.Calls.{Put, Get, Drain, asks};
-ghost use Rattle.answers.specs.Answers.{code_of};
-ghost use Rattle.refusals.specs.Asked.{table_in, names_in, sites_in, full_in, room_in, deliver_in};
+ghost use Rattle.rules.specs.Calls.{Put, Get, Drain, refusals};
+ghost use Rattle.answers.specs.Answers.{asked};
+ghost use Rattle.refusals.specs.Asked.{sound_in, live_in, names_in, sites_in, full_in, room_in, receives_in, Counted};
 
 use answers::Refusal;
-use layout::Table;
+use layout::{Applied, Bytes, Table};
+use sound::Counts;
 
-// 1 and 2: the buffer's size, and the soundness of the table in it.
-pub fn table_refusal(t: &[u8]) -> Refusal
-    ensures { code_of result ≡ first (table_in t.now) }
+// 2: the soundness of the table.
+pub fn table_refusal(t: &Bytes) -> Result<Counts, Refusal>
+    ensures refusal { asked result ≡ first (sound_in (state_of t.now)) }
+    ensures counts { IfOk result (Counted (state_of t.now)) }
 {
-    if t.len() != Table::BYTES {
-        return Refusal::Size;
-    }
-    if !sound::sound(t) {
-        return Refusal::Unsound;
-    }
-    Refusal::Nothing
+    Counts::of_sound(t).ok_or(Refusal::Unsound)
 }
 
 // Whether s is retired.
-pub fn gone(t: &[u8], s: usize) -> bool
-    requires { (length t.now ≡ table.width) × (s < 8) }
+pub fn gone(t: &Bytes, s: usize) -> bool
+    requires { s < 8 }
     ensures { result ≡ gone (state_of t.now) s }
 {
     let h = layout::read_header(t);
@@ -35,138 +31,114 @@ pub fn gone(t: &[u8], s: usize) -> bool
 }
 
 // A live site i has applied 16 fewer of s's puts than s, which has made top.
-fn lags(t: &[u8], i: usize, s: usize, top: usize) -> bool
-    requires { (length t.now ≡ table.width) × (i < 8) × (s < 8) }
+fn lags(t: &Bytes, i: usize, s: usize, top: usize) -> bool
+    requires { (i < 8) × (s < 8) }
     ensures { result ≡ (not (gone (state_of t.now) i) && eqb ((state_of t.now).applied i s + 16) top) }
 {
-    if layout::wide(layout::applied_at(t, i, s)) + Table::PLACES != top {
+    if usize::from(layout::at::<Applied>(t, i, s)) + Table::PLACES != top {
         return false;
     }
     !gone(t, i)
 }
 
 // Some live site has applied 16 fewer of s's puts than s.
-fn full(t: &[u8], n: usize, s: usize) -> bool
-    requires { (length t.now ≡ table.width) × (n ≤ 8) × (s < 8) }
-    ensures { result ≡ full_in (state_of t.now) n s }
+fn full(t: &Bytes, counts: Counts, s: usize) -> bool
+    requires { s < 8 }
+    ensures { result ≡ full_in (state_of t.now) counts.sites s }
 {
-    let top = layout::wide(layout::applied_at(t, s, s));
-    let mut i = 0;
-    while i < n {
+    let top = usize::from(layout::at::<Applied>(t, s, s));
+    for i in 0..counts.sites {
         if lags(t, i, s, top) {
             return true;
         }
-        i += 1;
     }
     false
 }
 
-// 4, 16 and 6: a live site and a key.
-fn names_refusal(t: &[u8], n: usize, k: usize, s: usize, x: usize) -> Refusal
-    requires { (length t.now ≡ table.width) × (n ≤ 8) }
-    ensures { code_of result ≡ first (names_in (state_of t.now) n k s x) }
+// 4 and 16: a live site.
+fn live_refusal(t: &Bytes, counts: Counts, s: usize) -> Result<(), Refusal>
+    ensures { asked result ≡ first (live_in (state_of t.now) counts.sites s) }
 {
-    if n <= s {
-        return Refusal::Site;
+    if counts.sites <= s {
+        return Err(Refusal::Site);
     }
     if gone(t, s) {
-        return Refusal::Retired;
+        return Err(Refusal::Retired);
     }
-    if k <= x {
-        return Refusal::Key;
-    }
-    Refusal::Nothing
+    Ok(())
 }
 
-// 4, 5 and 16: two sites, the receiver live; the origin may be retired.
-fn sites_refusal(t: &[u8], n: usize, s: usize, o: usize) -> Refusal
-    requires { (length t.now ≡ table.width) × (n ≤ 8) }
-    ensures { code_of result ≡ first (sites_in (state_of t.now) n s o) }
+// 4, 16 and 6: a live site and a key.
+pub fn names_refusal(t: &Bytes, counts: Counts, s: usize, x: usize) -> Result<(), Refusal>
+    ensures { asked result ≡ first (names_in (state_of t.now) counts.sites counts.keys s x) }
 {
-    if n <= s {
-        return Refusal::Site;
+    live_refusal(t, counts, s)?;
+    if counts.keys <= x {
+        return Err(Refusal::Key);
     }
-    if n <= o {
-        return Refusal::Site;
+    Ok(())
+}
+
+// 4, 5 and 16: two sites, the receiver live; the origin may be retired. 5 stands between the two that live_refusal asks.
+fn sites_refusal(t: &Bytes, counts: Counts, s: usize, o: usize) -> Result<(), Refusal>
+    ensures { asked result ≡ first (sites_in (state_of t.now) counts.sites s o) }
+{
+    if counts.sites <= s || counts.sites <= o {
+        return Err(Refusal::Site);
     }
     if s == o {
-        return Refusal::Same;
+        return Err(Refusal::Same);
     }
     if gone(t, s) {
-        return Refusal::Retired;
+        return Err(Refusal::Retired);
     }
-    Refusal::Nothing
+    Ok(())
 }
 
 // 7 and 8: room for one more put of s.
-pub fn room_refusal(t: &[u8], n: usize, s: usize) -> Refusal
-    requires { (length t.now ≡ table.width) × (n ≤ 8) × (s < 8) }
-    ensures { code_of result ≡ first (room_in (state_of t.now) n s) }
+pub fn room_refusal(t: &Bytes, counts: Counts, s: usize) -> Result<(), Refusal>
+    requires { s < 8 }
+    ensures { asked result ≡ first (room_in (state_of t.now) counts.sites s) }
 {
-    if layout::applied_at(t, s, s) == Table::LAST_CLOCK {
-        return Refusal::Spent;
+    if layout::at::<Applied>(t, s, s) == Table::LAST_CLOCK {
+        return Err(Refusal::Spent);
     }
-    if full(t, n, s) {
-        return Refusal::Full;
+    if full(t, counts, s) {
+        return Err(Refusal::Full);
     }
-    Refusal::Nothing
+    Ok(())
 }
 
-// 1, 2, 4 and 16: a live site.
-pub fn site_refusal(t: &[u8], s: usize) -> Refusal
-    ensures { code_of result ≡ first (asks t.now (Drain s 0)) }
+// 2, 4 and 16: a live site.
+pub fn site_refusal(t: &Bytes, s: usize) -> Result<Counts, Refusal>
+    ensures refusal { asked result ≡ first (refusals (state_of t.now) (Drain s 0)) }
+    ensures counts { IfOk result (Counted (state_of t.now)) }
 {
-    let why = table_refusal(t);
-    match why {
-        Refusal::Nothing => {
-            let h = layout::read_header(t);
-            if layout::wide_byte(h.n) <= s {
-                return Refusal::Site;
-            }
-            if gone(t, s) {
-                return Refusal::Retired;
-            }
-            Refusal::Nothing
-        }
-        _ => why,
-    }
+    let counts = table_refusal(t)?;
+    live_refusal(t, counts, s)?;
+    Ok(counts)
 }
 
-pub fn get_refusal(t: &[u8], s: usize, x: usize) -> Refusal
-    ensures { code_of result ≡ first (asks t.now (Get s x)) }
+pub fn get_refusal(t: &Bytes, s: usize, x: usize) -> Result<Counts, Refusal>
+    ensures refusal { asked result ≡ first (refusals (state_of t.now) (Get s x)) }
+    ensures counts { IfOk result (Counted (state_of t.now)) }
 {
-    let why = table_refusal(t);
-    match why {
-        Refusal::Nothing => {
-            let h = layout::read_header(t);
-            names_refusal(t, layout::wide_byte(h.n), layout::wide_byte(h.k), s, x)
-        }
-        _ => why,
-    }
+    let counts = table_refusal(t)?;
+    names_refusal(t, counts, s, x)?;
+    Ok(counts)
 }
 
-pub fn put_refusal(t: &[u8], s: usize, x: usize) -> Refusal
-    ensures { code_of result ≡ first (asks t.now (Put s x 0)) }
+pub fn put_refusal(t: &Bytes, s: usize, x: usize) -> Result<(), Refusal>
+    ensures { asked result ≡ first (refusals (state_of t.now) (Put s x 0)) }
 {
-    let why = get_refusal(t, s, x);
-    match why {
-        Refusal::Nothing => {
-            let h = layout::read_header(t);
-            room_refusal(t, layout::wide_byte(h.n), s)
-        }
-        _ => why,
-    }
+    let counts = get_refusal(t, s, x)?;
+    room_refusal(t, counts, s)
 }
 
-pub fn deliver_refusal(t: &[u8], s: usize, o: usize) -> Refusal
-    ensures { code_of result ≡ first (deliver_in t.now s o) }
+// 2, 4, 5 and 16, of a delivery.
+pub fn deliver_refusal(t: &Bytes, s: usize, o: usize) -> Result<(), Refusal>
+    ensures { asked result ≡ first (receives_in (state_of t.now) s o) }
 {
-    let why = table_refusal(t);
-    match why {
-        Refusal::Nothing => {
-            let h = layout::read_header(t);
-            sites_refusal(t, layout::wide_byte(h.n), s, o)
-        }
-        _ => why,
-    }
+    let counts = table_refusal(t)?;
+    sites_refusal(t, counts, s, o)
 }

@@ -1,58 +1,50 @@
 // The reply of a call from C: 12 bytes, and the code that comes back beside them.
 #![tactic(auto)]
 
-ghost use Rattle.std.specs.Prelude.{◌≡◌, length};
-ghost use Rattle.answers.specs.Answers.{code_of};
+ghost use Rattle.std.specs.Prelude.{◌≡◌};
+ghost use Rattle.answers.specs.Answers.{asked, numbers_of};
 ghost use Rattle.numbers.specs.Five.{five_of};
-ghost use Rattle.reply.specs.Reply.{reply_bytes, reply_of};
+ghost use Rattle.reply.specs.Reply.{reply_of};
 ghost use Rattle.reply.specs.Told.{Replied, behind};
 
-use answers::Refusal;
+use answers::{Answer, Refusal};
 use numbers::Five;
 
-#[derive(Drop)]
-pub struct Reply {}
+pub struct Reply;
 
 impl Reply {
     pub const BYTES: usize = 12;
 
+    // The number of Refusal::Size, which a constant can't ask for.
     pub const WRONG_SIZE: u32 = 1;
 }
 
 // Code, key, site, zero, clock (2), two zeros, value (4).
-fn write_reply(reply: &mut [u8], code: u8, key: u8, site: u8, clock: u16, value: u32)
-    requires { length reply.old ≡ reply_bytes }
-    ensures { reply.new ≡ reply_of (record { code = code; key = key; site = site; clock = clock; value = value }) }
+fn write_reply(reply: &mut [u8; Reply::BYTES], x: Five)
+    ensures { reply.new ≡ reply_of (five_of x) }
 {
-    reply[0] = code;
-    reply[1] = key;
-    reply[2] = site;
-    reply[3] = 0;
-    reply[4] = (clock / 256) as u8;
-    reply[5] = (clock % 256) as u8;
-    reply[6] = 0;
-    reply[7] = 0;
-    reply[8] = (value / 16777216) as u8;
-    reply[9] = (value / 65536 % 256) as u8;
-    reply[10] = (value / 256 % 256) as u8;
-    reply[11] = (value % 256) as u8;
+    let [c0, c1] = x.clock.to_be_bytes();
+    let [v0, v1, v2, v3] = x.value.to_be_bytes();
+    *reply = [x.code, x.key, x.site, 0, c0, c1, 0, 0, v0, v1, v2, v3];
 }
 
-// The reply is written whole, whatever the answer, and its code comes back.
-pub fn answer(reply: &mut [u8], x: Five) -> u32
-    requires { length reply.old ≡ reply_bytes }
+// The reply is written whole, whatever the five numbers, and their code comes back.
+pub fn tell(reply: &mut [u8; Reply::BYTES], x: Five) -> u32
     ensures { Replied result reply.new (five_of x) }
 {
-    write_reply(reply, x.code, x.key, x.site, x.clock, x.value);
-    x.code as u32
+    write_reply(reply, x);
+    u32::from(x.code)
+}
+
+pub fn answer(reply: &mut [u8; Reply::BYTES], a: Answer) -> u32
+    ensures { Replied result reply.new (numbers_of a) }
+{
+    tell(reply, Five::from(a))
 }
 
 // A reply of another size: 14 where the call's own numbers are refused, else 1.
-pub fn wrong_size(words: Refusal) -> u32
-    ensures { result ≡ behind (code_of words) }
+pub fn wrong_size<T: Drop>(words: Result<T, Refusal>) -> u32
+    ensures { result ≡ behind (asked words) }
 {
-    match words {
-        Refusal::Nothing => Reply::WRONG_SIZE,
-        _ => answers::refusal_code(words) as u32,
-    }
+    u32::from(u8::from(words.err().unwrap_or(Refusal::Size)))
 }

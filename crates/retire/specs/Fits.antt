@@ -1,9 +1,8 @@
 -- What the step of a retirement relies on. Assumes nothing.
-use Rattle.std.specs.Prelude.{◌≡◌, List, ℕ, ◌+◌, ◌^◌, ◌<◌, length}
-use Rattle.layout.specs.State.{state_of, table}
+use Rattle.std.specs.Prelude.{ℕ, ◌+◌, ◌^◌, ◌<◌}
+use Rattle.layout.specs.State.{State}
 
 -- a site whose bit byte 2 has room for
-pub record RetireFits (t : List ℕ) (s : ℕ) : Type 0 where
-  pub size : length t ≡ table.width
+pub record RetireFits (S : State) (s : ℕ) : Type 0 where
   pub site : s < 8
-  pub room : (state_of t).retired + 2 ^ s < 256
+  pub room : S.retired + 2 ^ s < 256

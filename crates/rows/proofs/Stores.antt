@@ -6,8 +6,6 @@ use Prim.Native.Nat.{ℕ, ◌+◌}
 use native.Mathlib.Omega.{arith}
 use borrow.Author.Tests.{eq-eqb, ne_eqb}
 use Rattle.clock.specs.Map.{when◌then◌else◌, ◌⟨◌≔◌⟩, ◌⟨◌⟩⟨◌≔◌⟩}
-use Rattle.clock.specs.Vector.{Vector}
-use Rattle.clock.proofs.Maps.{at_same, at_twice}
 use Rattle.layout.specs.State.{State, Entry, Update, with_applied, with_depends, with_store, with_updates}
 use Rattle.rules.specs.Engine.{Engine}
 use Rattle.rules.specs.Sound.{place}
@@ -41,13 +39,6 @@ module _ (S : State) where
       (S.store ⟨ s ⟩⟨ x ≔ record { value = v; origin = s; zero = 0; clock = ec i; depends = E.own (sent i) } ⟩))
       (S.applied ⟨ s ⟩⟨ s ≔ ec i ⟩))
       (S.depends ⟨ s ≔ E.left (sent i) s (ec i) ⟩))
-
-  -- a row over a row
-  pub row_twice : (T U : State) (s : ℕ) (v : Vector) (f : Vector → Vector) → Row S s v T → Row T s (f (T.depends s)) U → Row S s (f v) U
-  row_twice T U s v f p q =
-      q
-      ∙ ap (λ (T : State). with_depends T (T.depends ⟨ s ≔ f (T.depends s) ⟩)) p
-      ∙ ap (with_depends S) (at_twice S.depends s v _ ∙ ap (λ (w : Vector). S.depends ⟨ s ≔ f w ⟩) (at_same S.depends s v))
 
   pub learn_none : (E : Engine) (s x : ℕ) → (S.store s x).clock ≡ 0 → S ≡ learn E S s x
   unfolding learn

@@ -1,8 +1,8 @@
 -- What the code stores for a step: a row, an update, an entry, and what that relies on. Assumes nothing.
-use Rattle.std.specs.Prelude.{◌≡◌, List, ℕ, ◌<◌, length}
+use Rattle.std.specs.Prelude.{◌≡◌, ℕ, ◌<◌}
 use Rattle.clock.specs.Map.{when◌then◌else◌, ◌⟨◌≔◌⟩, ◌⟨◌⟩⟨◌≔◌⟩}
 use Rattle.clock.specs.Vector.{Vector}
-use Rattle.layout.specs.State.{State, Update, state_of, table, with_depends, with_store, with_updates}
+use Rattle.layout.specs.State.{State, Update, with_depends, with_store, with_updates}
 use Rattle.rules.specs.Sound.{place}
 use Rattle.rules.specs.Engine.{Engine}
 
@@ -24,11 +24,8 @@ Replaced E S s o u c T =
     let M = S.store ⟨ s ⟩⟨ u.key ≔ record { value = u.value; origin = o; zero = 0; clock = c; depends = u.depends } ⟩ in
     T ≡ with_store S (when E.replaces u o (S.store s u.key) then M else S.store)
 
-pub record EntryFits (t : List ℕ) (s x : ℕ) : Type 0 where
-  pub size : length t ≡ table.width
+-- a site, a key, and the entry there: its origin is a site
+pub record GetFits (S : State) (s x : ℕ) : Type 0 where
   pub site : s < 8
   pub key : x < 64
-
-pub record GetFits (t : List ℕ) (s x : ℕ) : Type 0 where
-  pub entry : EntryFits t s x
-  pub origin : ((state_of t).store s x).origin < 8
+  pub origin : (S.store s x).origin < 8

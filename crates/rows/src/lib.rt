@@ -2,78 +2,147 @@
 // stored, and which deliveries replace an entry.
 #![tactic(auto)]
 
-ghost use Rattle.std.specs.Prelude.{◌≡◌, ◌+◌, ◌≤◌, ◌<◌, length};
+ghost use Rattle.std.specs.Prelude.{◌≡◌, ◌+◌, ◌≤◌, ◌<◌};
 ghost use Rattle.clock.specs.Vector.{join, note};
 ghost use Rattle.clock.specs.Clock.{columns};
-ghost use Rattle.layout.specs.State.{state_of, last_clock, table};
+ghost use Rattle.layout.specs.State.{state_of, last_clock};
 ghost use Rattle.layout.specs.Records.{entry_of, update_of};
+ghost use Rattle.rules.specs.Engine as rules;
 ghost use Rattle.rules.specs.Engine.{taken_on, outranks};
-ghost use Rattle.answers.specs.Answers.{engine_of};
-ghost use Rattle.rows.specs.Rows.{Row, Sent, Stored, Replaced, EntryFits, GetFits};
+ghost use Rattle.laws.specs.Taken.{Takes};
+ghost use Rattle.laws.proofs.Taken.{ranked_takes, short_takes};
+ghost use Rattle.rows.specs.Rows.{Row, Sent, Stored, Replaced, GetFits};
 
-use answers::Engine;
 use clock::Clock;
-use layout::{Record, Table};
+use layout::{Bytes, Depends, Entries, Record, Table, Updates};
 
 // The row of s.
-fn row(t: &[u8], s: usize) -> Clock
-    requires { (length t.now ≡ table.width) × (s < 8) }
+fn row(t: &Bytes, s: usize) -> Clock
+    requires { s < 8 }
     ensures { columns result ≡ (state_of t.now).depends s }
 {
-    let d = layout::depends(t, s, s + 1);
+    let d = layout::rows::<Depends>(t, s, s + 1);
     Clock { col: d[s] }
 }
 
 // The pair (o, c) joins the row of s.
-fn note(t: &mut [u8], s: usize, o: usize, c: u16)
-    requires { (length t.old ≡ table.width) × (s < 8) × (o < 8) }
+fn note(t: &mut Bytes, s: usize, o: usize, c: u16)
+    requires { (s < 8) × (o < 8) }
     ensures { Row (state_of t.old) s (note ((state_of t.old).depends s) o c) (state_of t.new) }
 {
-    layout::set_depends_at(t, s, o, clock::greater(layout::depends_at(t, s, o), c));
+    let seen = layout::at::<Depends>(t, s, o);
+    layout::set::<Depends>(t, s, o, seen.max(c));
 }
 
 // The vector v joins the row of s.
-fn join(t: &mut [u8], s: usize, v: Clock)
-    requires { (length t.old ≡ table.width) × (s < 8) }
+fn join(t: &mut Bytes, s: usize, v: Clock)
+    requires { s < 8 }
     ensures { Row (state_of t.old) s (join ((state_of t.old).depends s) (columns v)) (state_of t.new) }
 {
-    layout::set_depends(t, s, row(t, s).join(v));
+    let joined = row(t, s).join(v);
+    layout::set_row::<Depends>(t, s, joined);
 }
 
 // The row joined with the entry's vector and then with its pair.
-fn take_on(t: &mut [u8], s: usize, e: Record)
-    requires { (length t.old ≡ table.width) × (s < 8) × (e.tag < 8) }
+fn take_on(t: &mut Bytes, s: usize, e: Record)
+    requires { (s < 8) × (e.tag < 8) }
     ensures { Row (state_of t.old) s (taken_on ((state_of t.old).depends s) (entry_of e)) (state_of t.new) }
 {
-    let depends = e.depends;
-    join(t, s, depends);
-    note(t, s, layout::wide_byte(e.tag), e.clock);
+    let origin = usize::from(e.tag);
+    join(t, s, e.depends);
+    note(t, s, origin, e.clock);
 }
 
-// What a get makes of the row: it takes on the entry, or its pair alone.
-pub fn learn_row(t: &mut [u8], s: usize, e: Record, engine: Engine)
-    requires { (length t.old ≡ table.width) × (s < 8) × (e.tag < 8) }
-    ensures { Row (state_of t.old) s ((engine_of engine).learned ((state_of t.old).depends s) (entry_of e)) (state_of t.new) }
-{
-    match engine {
-        Engine::Ranked => take_on(t, s, e),
-        Engine::Short => note(t, s, layout::wide_byte(e.tag), e.clock),
+// How a site keeps what it depends on, and whether puts are ranked by it.
+pub trait Engine {
+    // The engine of the rules that it is.
+    ghost engine: { rules.Engine };
+
+    // What a get makes of the row.
+    fn learn_row(t: &mut Bytes, s: usize, e: Record)
+        requires { (s < 8) × (e.tag < 8) }
+        ensures { Row (state_of t.old) s (engine.learned ((state_of t.old).depends s) (entry_of e)) (state_of t.new) };
+
+    // What a put makes of it first.
+    fn learn_old(t: &mut Bytes, s: usize, x: usize)
+        requires { GetFits (state_of t.old) s x }
+        ensures { Row (state_of t.old) s (engine.sent ((state_of t.old).depends s) ((state_of t.old).store s x)) (state_of t.new) };
+
+    // With what an own put is stored.
+    fn own(t: &Bytes, s: usize) -> Clock
+        requires { s < 8 }
+        ensures { columns result ≡ engine.own ((state_of t.now).depends s) };
+
+    // The row after the put (s, c).
+    fn leave_row(t: &mut Bytes, s: usize, c: u16)
+        requires { s < 8 }
+        ensures { Row (state_of t.old) s (engine.left ((state_of t.old).depends s) s c) (state_of t.new) };
+
+    // Whether the update replaces the entry of x at s.
+    fn replaces(t: &Bytes, s: usize, x: usize, u: Record, o: usize) -> bool
+        requires { (s < 8) × (x < 64) }
+        ensures { result ≡ engine.replaces (update_of u) o ((state_of t.now).store s x) };
+
+    ghost takes: { Takes engine };
+}
+
+// In full and ranked: a get takes the entry on, as does a put what it overwrites, and the higher rank replaces.
+pub struct Ranked;
+
+impl Engine for Ranked {
+    ghost engine = { rules.ranked };
+
+    ghost takes = { ranked_takes };
+
+    fn learn_row(t: &mut Bytes, s: usize, e: Record) {
+        take_on(t, s, e);
+    }
+
+    fn learn_old(t: &mut Bytes, s: usize, x: usize) {
+        let e = layout::record_at::<Entries>(t, s, x);
+        if e.clock != 0 {
+            take_on(t, s, e);
+        }
+    }
+
+    // Its update's vector, the row again: read anew it is one copy of 16 bytes.
+    fn own(t: &Bytes, s: usize) -> Clock {
+        row(t, s)
+    }
+
+    fn leave_row(t: &mut Bytes, s: usize, c: u16) {
+        note(t, s, s, c);
+    }
+
+    fn replaces(t: &Bytes, s: usize, x: usize, u: Record, o: usize) -> bool {
+        outranks(u, o, layout::record_at::<Entries>(t, s, x))
     }
 }
 
-// A put first takes on the dependence of the entry it overwrites, as a get would; with short lists it does not.
-pub fn learn_old(t: &mut [u8], s: usize, x: usize, engine: Engine)
-    requires { GetFits t.old s x }
-    ensures { Row (state_of t.old) s ((engine_of engine).sent ((state_of t.old).depends s) ((state_of t.old).store s x)) (state_of t.new) }
-{
-    match engine {
-        Engine::Ranked => {
-            let e = layout::entry_at(t, s, x);
-            if e.clock != 0 {
-                take_on(t, s, e);
-            }
-        }
-        Engine::Short => {}
+// As a short list: a get adds the pair of what it read, a put leaves its own alone, and every delivery replaces.
+pub struct Short;
+
+impl Engine for Short {
+    ghost engine = { rules.short };
+
+    ghost takes = { short_takes };
+
+    fn learn_row(t: &mut Bytes, s: usize, e: Record) {
+        note(t, s, usize::from(e.tag), e.clock);
+    }
+
+    fn learn_old(_t: &mut Bytes, _s: usize, _x: usize) {}
+
+    fn own(_t: &Bytes, _s: usize) -> Clock {
+        Clock::zero()
+    }
+
+    fn leave_row(t: &mut Bytes, s: usize, c: u16) {
+        layout::set_row::<Depends>(t, s, Clock::zero().note(s, c));
+    }
+
+    fn replaces(_t: &Bytes, _s: usize, _x: usize, _u: Record, _o: usize) -> bool {
+        true
     }
 }
 
@@ -85,32 +154,34 @@ pub fn after(c: u16) -> u16
     c + 1
 }
 
-// The update of the put (s, c) at its place, with the row of its site.
-pub fn send(t: &mut [u8], s: usize, x: usize, v: u32, c: u16)
-    requires { (length t.old ≡ table.width) × (s < 8) × (x < 64) × (1 ≤ c) }
+// The update of the put (s, c) at its place, with the row of its site. Updates and entries stand on two shelves and have two
+// promises, so each writes its record.
+// Its numbers are those of Sent and Stored, in their order.
+pub fn send(t: &mut Bytes, s: usize, x: usize, v: u32, c: u16)
+    requires { (s < 8) × (x < 64) × (1 ≤ c) }
     ensures { Sent (state_of t.old) s x v c (state_of t.new) }
 {
     let depends = row(t, s);
-    layout::set_update(
+    layout::set_record::<Updates>(
         t,
         s,
-        layout::wide(c - 1) % Table::PLACES,
+        usize::from(c - 1) % Table::PLACES,
         Record {
             value: v,
             tag: x as u8,
             zero: 0,
             clock: c,
-            depends: depends,
+            depends,
         },
     );
 }
 
 // The entry of x at s becomes the put (o, c).
-fn set_put(t: &mut [u8], s: usize, x: usize, o: usize, v: u32, c: u16, depends: Clock)
-    requires { EntryFits t.old s x × (o < 8) }
+fn set_put(t: &mut Bytes, s: usize, x: usize, o: usize, v: u32, c: u16, depends: Clock)
+    requires { (s < 8) × (x < 64) × (o < 8) }
     ensures { Stored (state_of t.old) s x o v c (columns depends) (state_of t.new) }
 {
-    layout::set_entry(
+    layout::set_record::<Entries>(
         t,
         s,
         x,
@@ -119,73 +190,42 @@ fn set_put(t: &mut [u8], s: usize, x: usize, o: usize, v: u32, c: u16, depends: 
             tag: o as u8,
             zero: 0,
             clock: c,
-            depends: depends,
+            depends,
         },
     );
 }
 
-// An own put is stored with its update's vector, the row again: read anew it is one copy of 16 bytes. Or with zeros.
-pub fn store_own(t: &mut [u8], s: usize, x: usize, v: u32, c: u16, engine: Engine)
-    requires { EntryFits t.old s x }
-    ensures { Stored (state_of t.old) s x s v c ((engine_of engine).own ((state_of t.old).depends s)) (state_of t.new) }
+pub fn store_own<E: Engine>(t: &mut Bytes, s: usize, x: usize, v: u32, c: u16)
+    requires { (s < 8) × (x < 64) }
+    ensures { Stored (state_of t.old) s x s v c (E.engine.own ((state_of t.old).depends s)) (state_of t.new) }
 {
-    match engine {
-        Engine::Ranked => set_put(t, s, x, s, v, c, row(t, s)),
-        Engine::Short => set_put(t, s, x, s, v, c, Clock::zero()),
-    }
+    let own = E::own(t, s);
+    set_put(t, s, x, s, v, c, own);
 }
 
-// The row after the put (s, c): the pair joins it, or is all that is left.
-pub fn leave_row(t: &mut [u8], s: usize, c: u16, engine: Engine)
-    requires { (length t.old ≡ table.width) × (s < 8) }
-    ensures { Row (state_of t.old) s ((engine_of engine).left ((state_of t.old).depends s) s c) (state_of t.new) }
-{
-    match engine {
-        Engine::Ranked => note(t, s, s, c),
-        Engine::Short => {
-            let zero = Clock::zero();
-            layout::set_depends(t, s, zero.note(s, c));
-        }
-    }
-}
-
-// The old entry is never written, or its rank is lower, or equal with an origin not higher.
+// The old entry is never written, or its rank is lower, or equal with an origin not higher. Tried as an order of pairs, for
+// which the proof did not close.
 fn outranks(u: Record, o: usize, old: Record) -> bool
     ensures { result ≡ outranks (update_of u) o (entry_of old) }
 {
     if old.clock == 0 {
         return true;
     }
-    let sent = u.depends;
-    let held = old.depends;
-    let rank = sent.rank();
-    let old_rank = held.rank();
+    let rank = u.depends.rank();
+    let old_rank = old.depends.rank();
     if rank == old_rank {
-        return layout::wide_byte(old.tag) <= o;
+        return usize::from(old.tag) <= o;
     }
     old_rank < rank
 }
 
-// Whether the update replaces the entry of x at s.
-fn replaces(t: &[u8], s: usize, x: usize, u: Record, o: usize, engine: Engine) -> bool
-    requires { EntryFits t.now s x }
-    ensures { result ≡ (engine_of engine).replaces (update_of u) o ((state_of t.now).store s x) }
-{
-    match engine {
-        Engine::Ranked => outranks(u, o, layout::entry_at(t, s, x)),
-        Engine::Short => true,
-    }
-}
-
 // The entry of the update's key at s, where the update replaces it.
-pub fn replace(t: &mut [u8], s: usize, o: usize, u: Record, c: u16, engine: Engine)
-    requires { (length t.old ≡ table.width) × (s < 8) × (o < 8) × (u.tag < 64) }
-    ensures { Replaced (engine_of engine) (state_of t.old) s o (update_of u) c (state_of t.new) }
+pub fn replace<E: Engine>(t: &mut Bytes, s: usize, o: usize, u: Record, c: u16)
+    requires { (s < 8) × (o < 8) × (u.tag < 64) }
+    ensures { Replaced E.engine (state_of t.old) s o (update_of u) c (state_of t.new) }
 {
-    let x = layout::wide_byte(u.tag);
-    if !replaces(t, s, x, u, o, engine) {
-        return;
+    let x = usize::from(u.tag);
+    if E::replaces(t, s, x, u, o) {
+        set_put(t, s, x, o, u.value, c, u.depends);
     }
-    let depends = u.depends;
-    set_put(t, s, x, o, u.value, c, depends);
 }

@@ -1,22 +1,21 @@
 -- The text of a run, a piece for each step. Assumes nothing.
-use mathlib.Core.Path.{◌≡◌, refl, sym, ap, subst, ◌∙◌}
-use mathlib.Core.List.{List, [], ◌++◌, append_assoc}
+use mathlib.Core.Path.{◌≡◌, ◌∙◌}
+use mathlib.Core.List.{List, ◌++◌}
 use mathlib.Core.Logic.{◌≢◌}
 use Prim.Native.Nat.{ℕ, suc, ◌+◌, ◌-◌, ◌≤◌, ◌<◌}
 use native.Mathlib.Numerals.{add-one}
 use native.Mathlib.Omega.{arith}
-use lib.ListN.{length, get_or, take, drop, take-append-drop, length-drop}
-use lib.Seq.{drop-drop}
+use lib.ListN.{length, get_or, drop}
 use borrow.Author.Tests.{lt-ltb, le-ltb, eq-eqb, ne_eqb}
-use Rattle.layout.specs.State.{State, all_zero, state_of}
+use Rattle.layout.specs.State.{State, all_zero}
 use Rattle.rules.specs.Engine.{ours}
 use Rattle.rules.specs.Steps.{Outcome}
 use Rattle.rules.specs.Calls.{Open, run}
-use Rattle.schedule.specs.Step.{step_of, played}
+use Rattle.schedule.specs.declared.Output.{Output}
 use Rattle.schedule.specs.Text.{line, end_line, cut_line}
-use Rattle.schedule.specs.Written.{Written, Stepped}
+use Rattle.schedule.specs.Written.{Adds}
 use Rattle.schedule.specs.Listing.{last_line, listed, next_played, after_open, listing}
-use Rattle.schedule.proofs.Writing.{written_then}
+use Rattle.schedule.proofs.Writing.{adds_then}
 
 module _ (m : ℕ) (S : State) (i : ℕ) (l : List ℕ) where
   pub listed_more : 6 ≤ length l → listed (suc m) S i l ≡ line (suc i) (next_played S l).answer ++ listed m (next_played S l).after (suc i) (drop 6 l)
@@ -27,52 +26,18 @@ module _ (m : ℕ) (S : State) (i : ℕ) (l : List ℕ) where
   unfolding listed
   listed_last h = rw (listed, lt-ltb (length l) 6 h)
 
--- the lines of i steps stand from `at` on, and with what is left of the input they make up the whole text
-pub record Progress (input t₀ out₀ : List ℕ) (at : ℕ) (t out : List ℕ) (from end i : ℕ) : Type 0 where
-  pub text : List ℕ
-  pub written : Written out₀ at text end out
-  pub whole : text ++ listed (10922 - i) (state_of t) i (drop from input) ≡ listed 10922 (state_of t₀) 0 (drop 2 input)
+-- what is left of the listing after i steps: a step's line and what is left after it, or the last line
+module _ (S : State) (i : ℕ) (l : List ℕ) {old new : Output} where
+  pub onward : {mid : Output} → i < 10922 → 6 ≤ length l → Adds old (line (i + 1) (next_played S l).answer) mid
+      → Adds mid (listed (10922 - (i + 1)) (next_played S l).after (i + 1) (drop 6 l)) new → Adds old (listed (10922 - i) S i l) new
+  onward k h f g =
+      let m : 10922 - i ≡ suc (10922 - (i + 1)) = omega arith in
+      rw (m, listed_more (10922 - (i + 1)) S i l h, ← add-one i) (adds_then f g)
 
-pub start : (input t out : List ℕ) (at : ℕ) → at ≤ length out → Progress input t out at t out 2 at 0
-start input t out at h =
-    record { text = []; written = record { ends = omega arith; fits = h; bytes = sym (take-append-drop at out) }; whole = refl }
-
-module _ {input t₀ out₀ : List ℕ} {at : ℕ} {t out : List ℕ} {from end i : ℕ} (g : Progress input t₀ out₀ at t out from end i) where
-  -- one more step
-  pub onward : {t' out' : List ℕ} {r : ℕ} → i < 10922 → from + 6 ≤ length input → Stepped (take (from + 6 - from) (drop from input)) t out end (i + 1) r t' out'
-      → Progress input t₀ out₀ at t' out' (from + 6) r (i + 1)
-  onward {t' = t'} h k s =
-      record {
-        text = g.text ++ line (i + 1) (played (state_of t) (step_of (take (from + 6 - from) (drop from input)))).answer;
-        written = written_then g.written s.written;
-        whole = append_assoc g.text _ _ ∙ ap (λ (l : List ℕ). g.text ++ l) piece ∙ g.whole;
-      }
-    where
-      piece : line (i + 1) (played (state_of t) (step_of (take (from + 6 - from) (drop from input)))).answer ++ listed (10922 - (i + 1)) (state_of t') (i + 1) (drop (from + 6) input)
-          ≡ listed (10922 - i) (state_of t) i (drop from input)
-      piece =
-          let w : from + 6 - from ≡ 6 = omega arith in
-          let m : 10922 - i ≡ suc (10922 - suc i) = omega arith in
-          let long : 6 ≤ length (drop from input) = rw (length-drop from input) (omega arith) in
-          rw (s.after, w, add-one i, m, ← drop-drop 6 from input) (sym (listed_more (10922 - suc i) (state_of t) i (drop from input) long))
-
-  -- the last line, before the most steps and after them
-  pub ended : {out' : List ℕ} {r : ℕ} → i < 10922 → length input - from < 6 → Written out end (last_line i (length input - from)) r out'
-      → Written out₀ at (listed 10922 (state_of t₀) 0 (drop 2 input)) r out'
-  ended {out' = out'} {r = r} h k w =
-      let m : 10922 - i ≡ suc (10922 - suc i) = omega arith in
-      let short : length (drop from input) < 6 = rw (length-drop from input) k in
-      let e : listed (10922 - i) (state_of t) i (drop from input) ≡ last_line i (length input - from) =
-      rw m (listed_last (10922 - suc i) (state_of t) i (drop from input) short ∙ ap (last_line i) (length-drop from input)) in
-      subst (λ (x : List ℕ). Written out₀ at x r out') (ap (λ (l : List ℕ). g.text ++ l) (sym e) ∙ g.whole) (written_then g.written w)
-
-  pub full : {out' : List ℕ} {r : ℕ} → 10922 ≤ i → i ≤ 10922 → Written out end (end_line i) r out'
-      → Written out₀ at (listed 10922 (state_of t₀) 0 (drop 2 input)) r out'
-  unfolding listed
-  full {out' = out'} {r = r} h k w =
-      let m : 10922 - i ≡ 0 = omega arith in
-      let e : listed (10922 - i) (state_of t) i (drop from input) ≡ end_line i = ap (λ (n : ℕ). listed n (state_of t) i (drop from input)) m in
-      subst (λ (x : List ℕ). Written out₀ at x r out') (ap (λ (l : List ℕ). g.text ++ l) (sym e) ∙ g.whole) (written_then g.written w)
+  pub ended : i < 10922 → length l < 6 → Adds old (last_line i (length l)) new → Adds old (listed (10922 - i) S i l) new
+  ended k h f =
+      let m : 10922 - i ≡ suc (10922 - (i + 1)) = omega arith in
+      rw (m, listed_last (10922 - (i + 1)) S i l h) f
 
 -- the first lines
 module _ (l : List ℕ) where

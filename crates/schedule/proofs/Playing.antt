@@ -4,10 +4,8 @@ use mathlib.Core.Bool.{Bool, true, false}
 use mathlib.Core.List.{List}
 use Prim.Native.Nat.{ℕ, ◌^◌, ◌<◌}
 use native.Mathlib.Omega.{arith}
-use lib.Dec.{eqb}
 use lib.ListN.{length, get_or, replicate, length-replicate}
 use Rattle.clock.specs.Map.{when◌then◌else◌}
-use Rattle.clock.proofs.Maps.{choice}
 use Rattle.layout.specs.State.{State, all_zero, state_of, table}
 use Rattle.layout.specs.Ranges.{Bytes}
 use Rattle.clock.proofs.Cells.{cells_zeros}
@@ -18,7 +16,9 @@ use Rattle.rules.specs.Calls.{Open, Drain, run, serve}
 use Rattle.laws.proofs.Outcomes.{outcome, outcome_is}
 use Rattle.laws.proofs.Fitting.{ours_fits, Sized, put_sized, get_sized, deliver_sized}
 use Rattle.schedule.specs.declared.Step.{Step}
-use Rattle.schedule.specs.Step.{call_of, unused_zero, played, played_on}
+use Rattle.schedule.specs.declared.Operation.{Operation}
+use Rattle.schedule.specs.declared.Operation.TheVariants.{Put, Get, Deliver, Drain}
+use Rattle.schedule.specs.Step.{operation_of, call_of, unused_zero, played, played_on}
 
 open_sized : (n k : ℕ) → Sized (Open n k)
 open_sized n k s' x' v' e = let z : ◌≡◌ {A = ℕ} 0 1 = cc in omega arith
@@ -28,11 +28,13 @@ drain_sized s b s' x' v' e = let z : ◌≡◌ {A = ℕ} 0 1 = cc in omega arith
 
 call_sized : (p : Step) → p.value < 256 ^ 4 → Sized (call_of p)
 unfolding call_of
-call_sized p h =
-    choice (eqb p.operation 0) Sized (λ e. put_sized p.site p.key p.value h) λ e.
-    choice (eqb p.operation 1) Sized (λ e. get_sized p.site p.key) λ e.
-    choice (eqb p.operation 2) Sized (λ e. deliver_sized p.site p.origin) λ e.
-    drain_sized p.site 903
+call_sized p h = go (operation_of p.operation) refl
+  where
+    go : (o : Operation) → operation_of p.operation ≡ o → Sized (call_of p)
+    go Put e = rw (call_of, e) (put_sized p.site p.key p.value h)
+    go Get e = rw (call_of, e) (get_sized p.site p.key)
+    go Deliver e = rw (call_of, e) (deliver_sized p.site p.origin)
+    go Drain e = rw (call_of, e) (drain_sized p.site 903)
 
 module _ (t : List ℕ) (long : length t ≡ table.width) (bytes : Bytes t) where
   open_is : (n k : ℕ) → outcome (serve ours t (Open n k)) ≡ run ours (state_of t) (Open n k)

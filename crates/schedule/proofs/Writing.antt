@@ -1,15 +1,12 @@
 -- Texts written one behind the other. Assumes nothing.
-use mathlib.Core.Path.{◌≡◌, refl, sym, ap, ◌∙◌}
-use mathlib.Core.List.{List, [], ◌∷◌, ◌++◌, append_assoc}
-use Prim.Native.Nat.{ℕ, ◌+◌, ◌≤◌, ◌<◌}
-use native.Mathlib.Numerals.{add-one}
+use mathlib.Core.Path.{◌≡◌, sym, ap, ◌∙◌}
+use mathlib.Core.List.{List, ◌++◌, append_assoc}
+use Prim.Native.Nat.{ℕ}
 use native.Mathlib.Omega.{arith}
-use lib.ListN.{length, take, drop, set, length-append, length-drop}
-use lib.Seq.{set_split, take_at, drop_at, drop-drop, length-take-le}
-use Rattle.schedule.specs.Written.{Written, Counts}
-
-pub written_byte : (b : List ℕ) (at x : ℕ) → at < length b → Written b at (x ∷ []) (at + 1) (set b at x)
-written_byte b at x h = record { ends = refl; fits = omega arith; bytes = rw add-one (set_split b at x h) }
+use lib.ListN.{length, take, drop, length-append, length-drop}
+use lib.Seq.{take_at, drop_at, drop-drop, length-take-le}
+use Rattle.schedule.specs.declared.Output.{Output}
+use Rattle.schedule.specs.Written.{Written, Adds}
 
 module _ {b m : List ℕ} {at p : ℕ} {s : List ℕ} (f : Written b at s p m) where
   head : m ≡ (take at b ++ s) ++ drop p b
@@ -21,11 +18,8 @@ module _ {b m : List ℕ} {at p : ℕ} {s : List ℕ} (f : Written b at s p m) w
       let e = f.ends in
       length-append (take at b) s ∙ omega (arith, length-take-le at b (omega arith))
 
-  pub same_long : length m ≡ length b
+  same_long : length m ≡ length b
   same_long = ap length head ∙ length-append (take at b ++ s) (drop p b) ∙ omega (arith, head_long, length-drop p b, f.fits)
-
-  pub counts : Counts p m
-  counts = let h : p ≤ length m = omega (arith, same_long, f.fits) in (h, sym (length-take-le p m h))
 
   head_is : take p m ≡ take at b ++ s
   head_is = ap (take p) head ∙ take_at (take at b ++ s) (drop p b) p head_long
@@ -33,7 +27,7 @@ module _ {b m : List ℕ} {at p : ℕ} {s : List ℕ} (f : Written b at s p m) w
   behind_is : drop p m ≡ drop p b
   behind_is = ap (drop p) head ∙ drop_at (take at b ++ s) (drop p b) p head_long
 
-pub written_then : {b m a : List ℕ} {at p r : ℕ} {s t : List ℕ} → Written b at s p m → Written m p t r a → Written b at (s ++ t) r a
+written_then : {b m a : List ℕ} {at p r : ℕ} {s t : List ℕ} → Written b at s p m → Written m p t r a → Written b at (s ++ t) r a
 written_then {b} {m} {a} {at} {p} {r} {s} {t} f g =
     record {
       ends = rw (length-append s t) (omega (arith, f.ends, g.ends));
@@ -48,3 +42,6 @@ written_then {b} {m} {a} {at} {p} {r} {s} {t} f g =
     behind : drop r m ≡ drop r b
     behind =
         rw g.ends (sym (drop-drop (length t) p m) ∙ ap (drop (length t)) (behind_is f) ∙ drop-drop (length t) p b)
+
+pub adds_then : {o m a : Output} {s t : List ℕ} → Adds o s m → Adds m t a → Adds o (s ++ t) a
+adds_then f g = record { lent = g.lent ∙ f.lent; long = g.long ∙ f.long; text_written = written_then f.text_written g.text_written }

@@ -1,13 +1,6 @@
 -- What a schedule prints, as bytes of text. Assumes nothing.
-use Rattle.std.specs.Prelude.{true, false, List, [], ◌∷◌, ◌++◌, ℕ, zero, suc, ◌+◌, ◌/◌, ◌%◌, ltb}
-use Prim.Native.Char.{code}
-use Prim.Native.String.{String, [] as none, ◌∷◌ as ◌before◌}
+use Rattle.std.specs.Prelude.{true, false, List, [], ◌∷◌, ◌++◌, ℕ, zero, suc, ◌+◌, ◌/◌, ◌%◌, ltb, codes}
 use Rattle.rules.specs.Steps.{Numbers}
-
--- the bytes of a text of plain characters
-abbrev pub text : String → List ℕ
-text none = []
-text (◌before◌ c s) = code c ∷ text s
 
 -- the decimal digits of n, the last `most` of them
 unfoldable pub digits : (most n : ℕ) → List ℕ
@@ -40,7 +33,7 @@ line i a =
 
 -- "`end` and the number of steps", "`cut` and the count of left bytes"
 unfoldable pub end_line : (steps : ℕ) → List ℕ
-end_line n = text "end " ++ word n newline
+end_line n = codes "end " ++ word n newline
 
 unfoldable pub cut_line : (left : ℕ) → List ℕ
-cut_line b = text "cut " ++ word b newline
+cut_line b = codes "cut " ++ word b newline

@@ -1,11 +1,6 @@
--- A text written into a lent buffer, and the numbers of an answer. Assumes nothing.
+-- A text written into a lent buffer. Assumes nothing.
 use Rattle.std.specs.Prelude.{◌≡◌, List, ◌++◌, ℕ, ◌+◌, ◌≤◌, length, get_or, take, drop}
-use Rattle.layout.specs.State.{state_of}
-use Rattle.rules.specs.Calls.{Served}
-use Rattle.numbers.specs.declared.Five.{Five}
-use Rattle.numbers.specs.Five.{five_of}
-use Rattle.schedule.specs.Step.{step_of, played}
-use Rattle.schedule.specs.Text.{line}
+use Rattle.schedule.specs.declared.Output.{Output}
 
 -- the text stands from `at` on, `end` is the place behind it, and the rest of the buffer is as it was
 pub record Written (before : List ℕ) (at : ℕ) (text : List ℕ) (end : ℕ) (after : List ℕ) : Type 0 where
@@ -21,12 +16,12 @@ Counts r out = (r ≤ length out) × (r ≡ length (take r out))
 abbrev pub Blank : (n : ℕ) → List ℕ → Type 0
 Blank n out = (n ≡ length out) × ((i : ℕ) → get_or out i 0 ≡ 0)
 
--- what a step that answered a has served, with the bytes t at its exit
-abbrev pub answered : Five → List ℕ → Served
-answered a t = record { answer = five_of a; bytes = t }
+-- the output has room for n more bytes
+abbrev pub Room : Output → ℕ → Type 0
+Room o n = o.written + n ≤ length o.bytes.now
 
--- the step played on the table t, and its line written
-pub record Stepped (step t out : List ℕ) (at i end : ℕ) (t' out' : List ℕ) : Type 0 where
-  pub after : state_of t' ≡ (played (state_of t) (step_of step)).after
-  pub written : Written out at (line i (played (state_of t) (step_of step)).answer) end out'
-  pub short : end ≤ at + 66
+-- the text stands behind what the output had, in the same lent bytes
+pub record Adds (old : Output) (text : List ℕ) (new : Output) : Type 0 where
+  pub lent : new.bytes.ghost_name ≡ old.bytes.ghost_name
+  pub long : length new.bytes.now ≡ length old.bytes.now
+  pub text_written : Written old.bytes.now old.written text new.written new.bytes.now

@@ -1,27 +1,24 @@
 // A schedule: its steps decoded, and the text that a run of it prints.
 #![tactic(auto)]
 
-ghost use Rattle.std.specs.Prelude.{◌≡◌, [], ◌∷◌, ◌+◌, ◌^◌, ◌≤◌, ◌<◌, length, drop};
-ghost use Rattle.layout.specs.Codec.{number_of};
-ghost use Rattle.layout.specs.State.{state_of, table};
+ghost use Rattle.std.specs.Prelude.{◌≡◌, [], ◌∷◌, ◌++◌, ◌+◌, ◌≤◌, length};
+ghost use Rattle.layout.specs.State.{state_of};
 ghost use Rattle.rules.specs.Engine.{ours};
-ghost use Rattle.rules.specs.Steps.{refused};
 ghost use Rattle.rules.specs.Calls.{serve};
 ghost use Rattle.answers.specs.Answers.{numbers_of, served};
-ghost use Rattle.schedule.specs.Step.{step_of, zero, unused_zero, call_of, Promise};
+ghost use Rattle.schedule.specs.Step.{operation_of, step_of, unused_zero, call_of, played, Promise};
 ghost use Rattle.schedule.specs.Text.{decimal, word, line};
-ghost use Rattle.schedule.specs.Listing.{last_line, listed, listing};
-ghost use Rattle.schedule.specs.Written.{Written, Counts, Blank, answered, Stepped};
-ghost use Rattle.numbers.specs.Five.{five_of};
+ghost use Rattle.schedule.specs.Listing.{listed, listing};
+ghost use Rattle.schedule.specs.Written.{Written, Counts, Blank, Room, Adds};
 
-use answers::{Answer, Engine};
-use layout::Table;
+use answers::{Answer, Refusal};
+use layout::{Bytes, Table};
 use numbers::Five;
+use rows::Ranked;
 
 // The most that a run takes and prints: a header of 2 bytes and 10,922 steps; a line for open and for
 // each step, and the last line. A line is six numbers of at most ten digits, each with a byte behind it.
-#[derive(Drop)]
-pub struct Schedule {}
+pub struct Schedule;
 
 impl Schedule {
     pub const HEADER: usize = 2;
@@ -39,9 +36,32 @@ impl Schedule {
     pub const LISTING: usize = 720933;
 }
 
+// What a step asks for, by its number.
+#[derive(Clone, Copy, Debug, PartialEq, Eq)]
+pub enum Operation {
+    Put,
+    Get,
+    Deliver,
+    Drain,
+}
+
+impl From<u8> for Operation {
+    ghost from_gives = { λ n o. o ≡ operation_of n };
+
+    fn from(number: u8) -> Operation {
+        match number {
+            0 => Operation::Put,
+            1 => Operation::Get,
+            2 => Operation::Deliver,
+            _ => Operation::Drain,
+        }
+    }
+}
+
 // A step of 48 bits.
 #[derive(Clone, Copy)]
 pub struct Step {
+    // A number, since `play` promises an answer for each.
     pub operation: u8,
     pub site: u8,
     pub origin: u8,
@@ -49,200 +69,171 @@ pub struct Step {
     pub value: u32,
 }
 
-// The 48 bits as a number, most significant byte first.
-fn bits(s: &[u8]) -> usize
-    requires { length s.now ≡ 6 }
-    ensures { (result ≡ number_of 6 s.now) × (result < 2 ^ 48) }
-{
-    let high = (layout::wide_byte(s[0]) * 256 + layout::wide_byte(s[1])) * 256
-        + layout::wide_byte(s[2]);
-    let low = (layout::wide_byte(s[3]) * 256 + layout::wide_byte(s[4])) * 256
-        + layout::wide_byte(s[5]);
-    high * 16777216 + low
-}
-
 // Operation (2 bits), site (3), origin (3), key (8), value (32).
-fn decode(s: &[u8]) -> Step
-    requires { length s.now ≡ 6 }
-    ensures { result ≡ step_of s.now }
+#[tactic(auto, unfolding(crate::specs::Step::step_of))]
+fn decode(step: &[u8; Schedule::STEP]) -> Step
+    ensures { result ≡ step_of step.now }
 {
-    let b = bits(s);
+    let [first, key, a, b, c, d] = *step;
     Step {
-        operation: (b >> 46) as u8,
-        site: ((b >> 43) % 8) as u8,
-        origin: ((b >> 40) % 8) as u8,
-        key: ((b >> 32) % 256) as u8,
-        value: (b % 4294967296) as u32,
+        operation: first >> 6,
+        site: (first >> 3) % 8,
+        origin: first % 8,
+        key,
+        value: u32::from_be_bytes([a, b, c, d]),
     }
-}
-
-fn zero(origin: u8, key: u8, value: u32) -> bool
-    ensures { result ≡ zero origin key value }
-{
-    if origin != 0 {
-        return false;
-    }
-    if key != 0 {
-        return false;
-    }
-    value == 0
 }
 
 // The fields that a put, a get, a deliver and a drain do not use are zero.
+#[tactic(auto, unfolding(crate::specs::Step::unused_zero))]
 fn unused_zero(p: Step) -> bool
     ensures { result ≡ unused_zero p }
 {
-    let operation = p.operation;
-    match operation {
-        0 => zero(p.origin, 0, 0),
-        1 => zero(p.origin, 0, p.value),
-        2 => zero(0, p.key, p.value),
-        _ => zero(p.origin, p.key, p.value),
+    match Operation::from(p.operation) {
+        Operation::Put => p.origin == 0,
+        Operation::Get => p.origin == 0 && p.value == 0,
+        Operation::Deliver => p.key == 0 && p.value == 0,
+        Operation::Drain => p.origin == 0 && p.key == 0 && p.value == 0,
     }
 }
 
+#[tactic(auto, unfolding(crate::specs::Step::call_of))]
 fn call(t: &mut [u8], p: Step) -> Answer
     ensures { served result t.new ≡ serve ours t.old (call_of p) }
 {
-    let operation = p.operation;
-    let site = p.site as usize;
-    match operation {
-        0 => table::put(t, site, p.key as usize, p.value, Engine::Ranked),
-        1 => table::get(t, site, p.key as usize, Engine::Ranked),
-        2 => deliver::deliver(t, site, p.origin as usize, Engine::Ranked),
-        _ => drain::drain(t, site, Schedule::BUDGET, Engine::Ranked),
+    let site = usize::from(p.site);
+    let key = usize::from(p.key);
+    match Operation::from(p.operation) {
+        Operation::Put => table::put::<Ranked>(t, site, key, p.value),
+        Operation::Get => table::get::<Ranked>(t, site, key),
+        Operation::Deliver => deliver::deliver::<Ranked>(t, site, usize::from(p.origin)),
+        Operation::Drain => drain::drain::<Ranked>(t, site, Schedule::BUDGET),
     }
 }
 
 // One step on a lent table; 12 comes before all others.
-pub fn play(t: &mut [u8], p: Step) -> Five
-    ensures { Promise t.old p (answered result t.new) }
+#[tactic(auto, unfolding(crate::specs::Step::played_on))]
+pub fn play(t: &mut [u8], p: Step) -> Answer
+    ensures { Promise t.old p (served result t.new) }
 {
-    if unused_zero(p) {
-        numbers::numbers_of(call(t, p))
-    } else {
-        numbers::refused(12)
+    if !unused_zero(p) {
+        return Err(Refusal::Unused.into());
+    }
+    call(t, p)
+}
+
+// The lent bytes, since there is no heap, and how many of them are written, which the promises give. By hand, since `write!` promises what it has written
+// only where it answers Ok, and the promise of the listing holds always.
+#[derive(Drop)]
+struct Output<'a> {
+    bytes: &'a mut [u8],
+    written: usize,
+}
+
+impl Output<'_> {
+    fn text(&mut self, text: &[u8])
+        requires { Room self.old (length text.now) }
+        ensures { Adds self.old text.now self.new }
+    {
+        let end = self.written + text.len();
+        self.bytes[self.written..end].copy_from_slice(text);
+        self.written = end;
+    }
+
+    #[tactic(auto, using(crate::proofs::Decimal::decimal_longer))]
+    fn decimal(&mut self, n: u32)
+        requires { Room self.old (length (decimal n)) }
+        ensures { Adds self.old (decimal n) self.new }
+    {
+        if n >= 10 {
+            self.decimal(n / 10);
+        }
+        self.text(&[b'0' + (n % 10) as u8]);
+    }
+
+    // A number in decimal and the byte behind it, at most 11 bytes.
+    #[tactic(auto, using(crate::proofs::Decimal::decimal_short))]
+    fn word(&mut self, n: u32, behind: u8)
+        requires { Room self.old 11 }
+        ensures written { Adds self.old (word n behind) self.new }
+        ensures upper_bound { self.new.written ≤ self.old.written + 11 }
+    {
+        self.decimal(n);
+        self.text(&[behind]);
+    }
+
+    // Step number, code, key, site, clock, value, in decimal with single spaces.
+    fn line(&mut self, step: u32, answer: Answer)
+        requires { Room self.old 66 }
+        ensures written { Adds self.old (line step (numbers_of answer)) self.new }
+        ensures upper_bound { self.new.written ≤ self.old.written + 66 }
+    {
+        let a = Five::from(answer);
+        self.word(step, b' ');
+        self.word(u32::from(a.code), b' ');
+        self.word(u32::from(a.key), b' ');
+        self.word(u32::from(a.site), b' ');
+        self.word(u32::from(a.clock), b' ');
+        self.word(a.value, b'\n');
+    }
+
+    // A last line: end and the steps, or cut and the bytes left.
+    fn last_line(&mut self, text: &[u8; 4], n: u32)
+        requires { Room self.old 15 }
+        ensures { Adds self.old (text.now ++ word n 10) self.new }
+    {
+        self.text(text);
+        self.word(n, b'\n');
+    }
+
+    // Plays a step and adds its line.
+    fn step(&mut self, number: u32, step: &[u8; Schedule::STEP], t: &mut Bytes)
+        requires { Room self.old 66 }
+        ensures after { state_of t.new ≡ (played (state_of t.old) (step_of step.now)).after }
+        ensures written { Adds self.old (line number (played (state_of t.old) (step_of step.now)).answer) self.new }
+        ensures upper_bound { self.new.written ≤ self.old.written + 66 }
+    {
+        self.line(number, play(t, decode(step)));
+    }
+
+    // A line for each step, and the last.
+    fn steps(&mut self, steps: &[u8], t: &mut Bytes)
+        requires { Room self.old 720867 }
+        ensures { Adds self.old (listed 10922 (state_of t.old) 0 steps.now) self.new }
+    {
+        let mut rest = steps;
+        for i in 0..Schedule::STEPS {
+            let Some((step, later)) = rest.split_first_chunk() else {
+                return match rest.len() {
+                    0 => self.last_line(b"end ", i),
+                    left => self.last_line(b"cut ", left as u32),
+                };
+            };
+            self.step(i + 1, step, t);
+            rest = later;
+        }
+        self.last_line(b"end ", Schedule::STEPS);
     }
 }
 
-// A byte at a place of the output; this and what follows answer the place behind what they wrote.
-fn write_byte(out: &mut [u8], at: usize, b: u8) -> usize
-    requires { at < length out.old }
-    ensures { Written out.old at (b ∷ []) result out.new }
-{
-    out[at] = b;
-    at + 1
-}
-
-fn write_decimal(out: &mut [u8], at: usize, n: u32) -> usize
-    requires { at + length (decimal n) ≤ length out.old }
-    ensures { Written out.old at (decimal n) result out.new }
-{
-    if n < 10 {
-        return write_byte(out, at, 48 + n as u8);
-    }
-    let end = write_decimal(out, at, n / 10);
-    write_byte(out, end, 48 + (n % 10) as u8)
-}
-
-// A number in decimal and the byte behind it, at most 11 bytes.
-fn write_word(out: &mut [u8], at: usize, n: u32, behind: u8) -> usize
-    requires { at + 11 ≤ length out.old }
-    ensures written { Written out.old at (word n behind) result out.new }
-    ensures upper_bound { result ≤ at + 11 }
-{
-    let end = write_decimal(out, at, n);
-    write_byte(out, end, behind)
-}
-
-// Step number, code, key, site, clock, value, in decimal with single spaces.
-fn write_line(out: &mut [u8], at: usize, step: u32, a: Five) -> usize
-    requires { at + 66 ≤ length out.old }
-    ensures written { Written out.old at (line step (five_of a)) result out.new }
-    ensures upper_bound { result ≤ at + 66 }
-{
-    let code = write_word(out, at, step, 32);
-    let key = write_word(out, code, a.code as u32, 32);
-    let site = write_word(out, key, a.key as u32, 32);
-    let clock = write_word(out, site, a.site as u32, 32);
-    let value = write_word(out, clock, a.clock as u32, 32);
-    write_word(out, value, a.value, 10)
-}
-
-// An answer as a line by itself.
+// An answer as a line by itself, and how long it is: the promise has the number beside the array.
 pub fn write_answer(out: &mut [u8; Schedule::LINE], number: u32, a: Answer) -> usize
     ensures written { Written out.old 0 (line number (numbers_of a)) result out.new }
     ensures counts { Counts result out.new }
 {
-    write_line(out, 0, number, numbers::numbers_of(a))
+    let mut output = Output {
+        bytes: out,
+        written: 0,
+    };
+    output.line(number, a);
+    output.written
 }
 
-// A last line: three letters and a number.
-fn write_last(out: &mut [u8], at: usize, a: u8, b: u8, c: u8, n: u32) -> usize
-    requires { at + 15 ≤ length out.old }
-    ensures written { Written out.old at (a ∷ b ∷ c ∷ 32 ∷ word n 10) result out.new }
-    ensures upper_bound { result ≤ at + 15 }
+// N zero bytes. The check would write out a literal as long as an input or a listing, so these are made here.
+pub fn room<const N: usize>() -> [u8; N]
+    ensures { Blank N result }
 {
-    let second = write_byte(out, at, a);
-    let third = write_byte(out, second, b);
-    let fourth = write_byte(out, third, c);
-    let number = write_byte(out, fourth, 32);
-    write_word(out, number, n, 10)
-}
-
-// The last line: end and the steps, or cut and the bytes left.
-fn write_end(out: &mut [u8], at: usize, steps: u32, left: u32) -> usize
-    requires { at + 15 ≤ length out.old }
-    ensures written { Written out.old at (last_line steps left) result out.new }
-    ensures upper_bound { result ≤ at + 15 }
-{
-    if left == 0 {
-        write_last(out, at, b'e', b'n', b'd', steps)
-    } else {
-        write_last(out, at, b'c', b'u', b't', left)
-    }
-}
-
-// Plays a step and writes its line.
-fn write_step(step: &[u8], t: &mut [u8], out: &mut [u8], at: usize, i: u32) -> usize
-    requires { (length step.now ≡ 6) × (length t.old ≡ table.width) × (at + 66 ≤ length out.old) }
-    ensures { Stepped step.now t.old out.old at i result t.new out.new }
-{
-    let a = play(t, decode(step));
-    write_line(out, at, i, a)
-}
-
-// A line for each step, and the last.
-fn write_steps(input: &[u8], t: &mut [u8], out: &mut [u8], at: usize) -> usize
-    requires { (2 ≤ length input.now) × (length t.old ≡ table.width) × (at + 720867 ≤ length out.old) }
-    ensures { Written out.old at (listed 10922 (state_of t.old) 0 (drop 2 input.now)) result out.new }
-{
-    let mut from = Schedule::HEADER;
-    let mut end = at;
-    let mut i: u32 = 0;
-    while i < Schedule::STEPS {
-        let left = input.len() - from;
-        if left < Schedule::STEP {
-            return write_end(out, end, i, left as u32);
-        }
-        i += 1;
-        end = write_step(&input[from..from + Schedule::STEP], t, out, end, i);
-        from += Schedule::STEP;
-    }
-    write_last(out, end, b'e', b'n', b'd', i)
-}
-
-// Room for the longest input and for the longest listing, all zero.
-pub fn input_room() -> [u8; Schedule::INPUT]
-    ensures { Blank 65534 result }
-{
-    [0; Schedule::INPUT]
-}
-
-pub fn listing_room() -> [u8; Schedule::LISTING]
-    ensures { Blank 720933 result }
-{
-    [0; Schedule::LISTING]
+    [0; N]
 }
 
 // What a run of the input prints, and how long it is.
@@ -250,16 +241,21 @@ pub fn write_listing(input: &[u8], out: &mut [u8; Schedule::LISTING]) -> usize
     ensures written { Written out.old 0 (listing input.now) result out.new }
     ensures counts { Counts result out.new }
 {
-    if input.len() < Schedule::HEADER {
-        return write_last(out, 0, b'c', b'u', b't', input.len() as u32);
+    let mut output = Output {
+        bytes: out,
+        written: 0,
+    };
+    let Some((&[n, k], steps)) = input.split_first_chunk::<{ Schedule::HEADER }>() else {
+        output.last_line(b"cut ", input.len() as u32);
+        return output.written;
+    };
+    let mut t = [0; Table::BYTES];
+    let opened = table::open(&mut t, usize::from(n), usize::from(k));
+    output.line(0, opened);
+    if opened.is_ok() {
+        output.steps(steps, &mut t);
+    } else {
+        output.last_line(b"end ", 0);
     }
-    let n = layout::wide_byte(input[0]);
-    let k = layout::wide_byte(input[1]);
-    let mut t = [0u8; Table::BYTES];
-    let a = numbers::numbers_of(table::open(&mut t, n, k));
-    let at = write_line(out, 0, 0, a);
-    if a.code != 0 {
-        return write_last(out, at, b'e', b'n', b'd', 0);
-    }
-    write_steps(input, &mut t, out, at)
+    output.written
 }

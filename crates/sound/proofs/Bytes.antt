@@ -3,7 +3,7 @@ use mathlib.Core.Path.{◌≡◌, refl, sym, ap, ◌∙◌}
 use mathlib.Core.Bool.{Bool, true, false, ◌&&◌, and-false, and-true, or-false}
 use mathlib.Core.List.{List}
 use mathlib.Core.Logic.{⊎_elim, ◌≢◌, ◌↔◌}
-use Prim.Native.Nat.{ℕ, suc, ◌+◌, ◌-◌, ◌%◌, ◌^◌, ◌≤◌, ◌<◌}
+use Prim.Native.Nat.{ℕ, suc, ◌+◌, ◌*◌, ◌-◌, ◌%◌, ◌^◌, ◌≤◌, ◌<◌}
 use native.Mathlib.Numerals.{add-one}
 use native.Mathlib.Omega.{arith}
 use lib.ListN.{length}
@@ -13,18 +13,22 @@ use Rattle.clock.specs.Map.{all}
 use Rattle.clock.specs.Vector.{Vector}
 use Rattle.clock.proofs.Maps.{true_or_false}
 use Rattle.clock.proofs.Says.{says_itself, says_same, says_eq, says_lt, says_and}
-use Rattle.layout.specs.State.{State, Entry, fields, to_entry, to_update, state_of}
+use Rattle.layout.specs.State.{State, Fields, Entry, fields, to_entry, to_update, state_of, store_at, updates_at}
 use Rattle.layout.specs.Ranges.{Bytes, Zeros}
-use Rattle.layout.specs.Records.{fields_at, entry_place, update_place}
+use Rattle.layout.specs.Parts.{entries, updates}
+use Rattle.layout.specs.Records.{fields_at}
 use Rattle.layout.proofs.Zeros.{zeros_are, zeros_part, zeros_long, zeros_below, zero_fields, fields_zero}
-use Rattle.layout.proofs.Splice.{part, length_part}
-use Rattle.layout.proofs.Places.{clock_read, entry_read, update_read}
+use Rattle.layout.specs.Fields.{part}
+use Rattle.layout.proofs.Splice.{length_part}
+use Rattle.layout.proofs.Fields.{at_place, read_part}
+use Rattle.layout.proofs.Places.{clock_read, record_stands}
 use Rattle.rules.specs.Sound.{Blank, blank, place, sound, header, counted, written, lowest, holds, retains}
 use Rattle.laws.proofs.Tested.{range_says, header_says, blank_says}
 use Rattle.laws.proofs.Bits.{clear_below, clear_found}
-use Rattle.sound.specs.Checks.{range_in, header_in, written_in, applied_in, none_in, held_in, body_in}
+use Rattle.sound.specs.Checks.{header_in, written_in, applied_in, none_in, entries_in, body_in}
 use Rattle.sound.specs.declared.Stray.{Stray}
-use Rattle.sound.proofs.Origins.{by_site, by_origin}
+use Rattle.std.proofs.Math.Bool.{and_assoc}
+use Rattle.sound.proofs.Origins.{counts_in, updates_in, by_origin}
 
 -- the bits of both numbers
 abbrev Both : (a b r : ℕ) → Type 0
@@ -68,12 +72,13 @@ module _ (l : List ℕ) where
         )
 
 -- the clock tells a written entry from a blank one, where code reads it
-module _ (t : List ℕ) (s x : ℕ) {at : ℕ} (hs : s < 8) (hx : x < 64) (place : at ≡ entry_place s x) (n : ℕ) (row : Vector) where
+module _ (t : List ℕ) (s x : ℕ) {at : ℕ} (hs : s < 8) (hx : x < 64) (place : at ≡ store_at + (s * 64 + x) * fields.width) (n : ℕ) (row : Vector) where
   abbrev entry : Entry
   entry = to_entry (fields_at (part t at (at + fields.width - at)))
 
   there : written_in n row ((state_of t).store s x) ≡ written_in n row entry
-  there = ap (written_in n row) (sym (entry_read t s x hs hx place))
+  unfolding fields_at state_of
+  there = ap (λ (p : Fields). written_in n row (to_entry p)) (sym (read_part (at_place (sym place) (record_stands entries s x hs hx)) t))
 
   pub blank_here : entry.clock ≡ 0 → written_in n row ((state_of t).store s x) ≡ blank entry
   blank_here h = there ∙ rw (lt-leb 1 entry.clock (omega (arith, h)), and-false (ltb entry.origin n)) (or-false (blank entry))
@@ -88,13 +93,13 @@ pub all_next : (p : ℕ → Bool) (x : ℕ) → all (x + 1) p ≡ (all x p && p 
 unfolding all
 all_next p x = rw add-one
 
--- the update with clock low + suc i, where code reads it
-pub held_at : (t : List ℕ) (k o low i : ℕ) {at : ℕ} → o < 8 → at ≡ update_place o ((low + i) % 16)
-    → held_in k (low + i + 1) (to_update (fields_at (part t at (at + fields.width - at)))) ≡ held_in k (low + suc i) ((state_of t).updates o (place (low + suc i)))
-held_at t k o low i ho e =
-    let c : low + i + 1 ≡ low + suc i = omega arith in
-    let p : low + i ≡ low + suc i - 1 = omega arith in
-    (λ j. held_in k (c j) (update_read t o ((low + i) % 16) ho (omega arith) e j)) ∙ (λ j. held_in k (low + suc i) ((state_of t).updates o (p j % 16)))
+-- the update with clock c + 1, where code reads it
+pub update_there : (t : List ℕ) (o c : ℕ) {at : ℕ} → o < 8 → at ≡ updates_at + (o * 16 + c % 16) * fields.width
+    → to_update (fields_at (part t at (at + fields.width - at))) ≡ (state_of t).updates o (place (suc c))
+unfolding fields_at state_of
+update_there t o c ho e =
+    let p : c ≡ suc c - 1 = omega arith in
+    (λ j. to_update (read_part (at_place (sym e) (record_stands updates o (c % 16) ho (omega arith))) t j)) ∙ λ j. (state_of t).updates o (p j % 16)
 
 -- the whole test, from the header that code has read
 module _ (S : State) (n k y z : ℕ) (en : n ≡ S.n) (ek : k ≡ S.k) (ey : y ≡ S.retired) (ez : z ≡ S.byte3) where
@@ -107,16 +112,9 @@ module _ (S : State) (n k y z : ℕ) (en : n ≡ S.n) (ek : k ≡ S.k) (ey : y �
         λ (((r, b), (s, (h, c))), e). ((r, clear_below S.n s S.retired b h c), e),
       )
 
-  pub unsound_header : header_in n k y z ≡ false → false ≡ sound S
-  unfolding sound
-  unsound_header h = sym (rw (sym header_is ∙ h))
-
-  pub sound_body : header_in n k y z ≡ true → body_in S n k ≡ sound S
+  pub sound_is : (header_in n k y z && body_in S S.n S.k) ≡ sound S
   unfolding sound counted written lowest holds retains
-  sound_body h = by_origin S n k ∙ (λ i. by_site S (en i) (ek i)) ∙ sym (rw (sym header_is ∙ h))
-
-pub range : (n k : ℕ) → range_in n k ≡ true → (n ≤ 8) × (k ≤ 64)
-range n k h = let r = (range_says n k).0 h in (r.0.0.1, r.1)
-
-pub header_range : (n k y z : ℕ) → header_in n k y z ≡ true → (n ≤ 8) × (k ≤ 64)
-header_range n k y z h = range n k ((says_and (says_and (says_itself (range_in n k)) (says_itself (ltb (suc y) (2 ^ n)))) (says_eq z 0)).0 h).0.0
+  sound_is =
+      (λ i. header_is i && by_origin S S.n S.k i)
+      ∙ sym (and_assoc (header S) (counts_in S S.n && entries_in S S.n S.k) (updates_in S S.n S.k))
+      ∙ λ i. sym (and_assoc (header S) (counts_in S S.n) (entries_in S S.n S.k)) i && updates_in S S.n S.k

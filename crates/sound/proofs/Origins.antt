@@ -56,8 +56,6 @@ module _ (S : State) (n k : ℕ) where
       kept o = retained_in S k o (lowest_in S n o) (S.applied o o)
 
   -- the smallest count is at hand when the sites are through
-  pub lag_is : (o s : ℕ) {low top : ℕ} {r : Bool} → r ≡ lag_in S k o low top → low ≡ lowest_in S s o → s ≤ n → n ≤ s → top ≡ S.applied o o
+  pub lag_is : (o s : ℕ) {low top : ℕ} {r : Bool} → r ≡ lag_in S k o low top → low ≡ lowest_in S s o → s ≡ n → top ≡ S.applied o o
       → r ≡ lag_in S k o (lowest_in S n o) (S.applied o o)
-  lag_is o s h low below above top =
-      let e : s ≡ n = omega arith in
-      h ∙ (λ i. lag_in S k o ((low ∙ ap (λ (m : ℕ). lowest_in S m o) e) i) (top i))
+  lag_is o s h low e top = h ∙ (λ i. lag_in S k o ((low ∙ ap (λ (m : ℕ). lowest_in S m o) e) i) (top i))

@@ -1,44 +1,33 @@
 -- What the steps of a touch may rely on, where no condition of it holds. Assumes nothing.
-use mathlib.Core.Path.{◌≡◌, sym, ap, subst, ◌∙◌}
-use mathlib.Core.List.{List}
-use Prim.Native.Nat.{ℕ, ◌<◌}
+use mathlib.Core.Path.{◌≡◌, sym, subst, ◌∙◌}
+use Prim.Native.Nat.{ℕ}
 use native.Mathlib.Omega.{arith}
-use lib.ListN.{length}
-use Rattle.layout.specs.State.{State, state_of, table}
+use Rattle.layout.specs.State.{State}
+use Rattle.rules.specs.Engine.{Engine}
 use Rattle.rules.specs.Steps.{learn}
-use Rattle.rules.specs.Refusals.{first}
-use Rattle.rules.specs.Calls.{Touch, asks}
-use Rattle.laws.proofs.Ready.{TouchReady, touch_ready}
-use Rattle.laws.proofs.Touching.{learn_apart}
-use Rattle.laws.proofs.Serving.{asks_clear}
-use Rattle.answers.specs.declared.Engine.{Engine}
-use Rattle.answers.specs.Answers.{engine_of}
+use Rattle.rules.specs.Refusals.{first, touch_words, touch_refusals}
+use Rattle.rules.specs.Calls.{Touch, refusals}
+use Rattle.laws.specs.Taken.{Takes}
+use Rattle.laws.proofs.Ready.{PutReady, gets_too, TouchReady, touch_ready}
+use Rattle.laws.proofs.Touching.{learn_apart, apart_ready}
+use Rattle.answers.proofs.Codes.{first_then}
 use Rattle.rows.specs.Rows.{GetFits}
-use Rattle.table.specs.Fits.{PutFits}
+use Rattle.rows.proofs.Fits.{get_fits}
 use Rattle.rows.proofs.Sending.{learn_taken}
-use Rattle.rows.proofs.Fits as fits
+use Rattle.table.specs.Fits.{PutFits}
 
-module _ (t : List ℕ) (s x hour u r : ℕ) (z : first (asks t (Touch s x hour u r)) ≡ 0) where
-  pub size : length t ≡ table.width
-  size = (asks_clear t (Touch s x hour u r) z).0
+-- what the get has taken on is taken on
+pub put_fits : (E : Engine) → Takes E → (S T : State) (s x : ℕ) → PutReady S s x → T ≡ learn E S s x → PutFits E T s x
+put_fits E K S T s x R e =
+    let f : GetFits S s x = get_fits S s x (gets_too R) in
+    subst (λ (T : State). PutFits E T s x) (sym e)
+    (record { site = f.site; key = f.key; clock = (apart_ready (learn_apart E S s x) R).clock; taken = learn_taken S s x E K })
 
-  pub ready : TouchReady (state_of t) s x hour u r
-  ready = touch_ready (state_of t) s x hour u r (asks_clear t (Touch s x hour u r) z).1
+-- neither the call's own numbers nor the table are refused, for a toucher of that number
+module _ (S : State) (s x hour u r : ℕ) {v : ℕ} (words : 0 ≡ first (touch_words hour u r)) (toucher : v ≡ u) (table : 0 ≡ first (touch_refusals S s x v)) where
+  pub clear : 0 ≡ first (refusals S (Touch s x hour u r))
+  unfolding refusals
+  clear = table ∙ (λ i. first (touch_refusals S s x (toucher i))) ∙ first_then (touch_words hour u r) (touch_refusals S s x u) (omega arith) (sym words)
 
-  pub small : (s < 8) × (x < 64)
-  small = let P = ready.put in (omega (arith, P.site, P.sound.sites), omega (arith, P.key, P.sound.keys))
-
-  pub get_fits : GetFits t s x
-  get_fits = fits.over_fits t s x size ready.put
-
-  -- the get leaves the counts, and what it has taken on is taken on
-  pub put_fits : (engine : Engine) (t' : List ℕ) → length t' ≡ length t → state_of t' ≡ learn (engine_of engine) (state_of t) s x → PutFits (engine_of engine) t' s x
-  put_fits engine t' l e =
-      let same : (state_of t').applied s s ≡ (state_of t).applied s s = ap (λ (S : State). S.applied s s) (e ∙ (learn_apart (engine_of engine) (state_of t) s x).1) in
-      record {
-        size = l ∙ size;
-        site = small.0;
-        key = small.1;
-        clock = λ n. ready.put.clock (sym same ∙ n);
-        taken = subst (λ (S : State). (engine_of engine).sent (S.depends s) (S.store s x) ≡ S.depends s) (sym e) (learn_taken (state_of t) s x engine);
-      }
+  pub ready : TouchReady S s x hour u r
+  ready = touch_ready S s x hour u r (sym clear)

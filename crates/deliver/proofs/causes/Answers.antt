@@ -8,4 +8,4 @@ use Rattle.deliver.proofs.causes.Goals as goal
 pub returns : goal.returns
 returns c =
     let a = c.args in
-    c.compare.ensures ∙ ap (λ (v : Vector). clocks.compare (clocks.columns a.u.depends) v) (row_read a.s (state_of a.t.now).applied c.applied-a.ensures)
+    c.compare.ensures ∙ ap (λ (v : Vector). clocks.compare (clocks.columns a.u.depends) v) (row_read a.s (state_of a.t.now).applied c.rows-a.ensures)

@@ -1,29 +1,30 @@
-use Rattle.std.proofs.Common.{◌∙◌, refl, sym, rules}
+use Rattle.std.proofs.Common.{refl, sym, rules, arith}
+use Rattle.layout.specs.State.{state_of}
 use Rattle.layout.specs.Ranges.{Bytes}
-use Rattle.rules.specs.Refusals.{site_refusals}
-use Rattle.rules.specs.Calls.{Drain, refusals, step, asks}
-use Rattle.answers.specs.Answers.{engine_of}
-use Rattle.answers.proofs.Codes.{refusing}
-use Rattle.answers.proofs.Serves.{serves_refused, serves_step}
-use Rattle.drain.proofs.Draining.{drain_clear}
+use Rattle.rules.specs.Calls.{Drain, refusals, step}
+use Rattle.laws.proofs.Ready.{drain_ready}
+use Rattle.answers.proofs.Serves.{other_size, refused_inside, step_taken}
 use Rattle.drain.proofs.drain.Goals as goal
 
-pub read_header-h-requires : goal.read_header-h-requires
-read_header-h-requires c = (drain_clear c.args.t.now c.args.s _ refl (sym c.in-Nothing.ensures)).size
+pub returns-in_err-t : goal.returns-in_err-t
+returns-in_err-t g c = other_size g.E.Engine.engine _ (Drain c.args.s c.args.budget) _ (search rules) (search rules) refl
+
+pub returns-in_err-counts : goal.returns-in_err-counts
+unfolding refusals
+returns-in_err-counts g c =
+    refused_inside g.E.Engine.engine _ (Drain c.args.s c.args.budget) _ (search rules) (search rules) _ _ (search rules) c.in_err-counts.ensures.refusal
 
 pub passes-requires : goal.passes-requires
-passes-requires c = drain_clear c.args.t.now c.args.s _ (c.wide_byte.ensures.0 ∙ c.read_header-h.ensures.n) (sym c.in-Nothing.ensures)
+unfolding refusals
+passes-requires g c =
+    let k = c.in_ok-counts.ensures in
+    let R = (drain_ready (state_of c.in_ok-t.t.now) c.args.s).0 (sym k.refusal) in
+    record { sound = R.sound; sites = k.counts.sites; site = omega (arith, R.site, k.counts.sites); live = R.live }
 
-pub returns-in-Nothing : goal.returns-in-Nothing
-unfolding Bytes asks refusals site_refusals step
-returns-in-Nothing c =
+pub returns : goal.returns
+unfolding Bytes step refusals
+returns g c =
     let a = c.args in
-    let w = c.passes in
-    serves_step (engine_of a.engine) a.t.now (Drain a.s a.budget) _ w.new.t w.auto.t (λ i. search rules) (sym c.in-Nothing.ensures) w.ensures.0 w.ensures.1
-
-pub returns-in_default : goal.returns-in_default
-unfolding Bytes asks refusals site_refusals
-returns-in_default c =
-    let a = c.args in
-    let r = c.site_refusal-why in
-    serves_refused (engine_of a.engine) a.t.now (Drain a.s a.budget) r.result r.ensures (refusing r.result c.in_default.not-Nothing)
+    let w = c.passes.ensures in
+    step_taken g.E.Engine.engine _ (Drain a.s a.budget) _ (search rules) (search rules) _ _ (search rules) (λ i. omega (arith, c.type_inv.t i))
+    c.in_ok-counts.ensures.refusal w.0 w.1

@@ -1,15 +1,14 @@
+use Rattle.std.proofs.Common.{rules}
 use Rattle.rules.specs.Calls.{Get}
-use Rattle.answers.specs.Answers.{engine_of}
 use Rattle.host.proofs.Hosts.{hosts_nothing, hosts_call}
 use Rattle.host.proofs.get.Goals as goal
 
-pub returns-then-reply-ne-BYTES : goal.returns-then-reply-ne-BYTES
-returns-then-reply-ne-BYTES c =
+pub returns-in_default : goal.returns-in_default
+returns-in_default g c =
     let a = c.args in
-    hosts_nothing (engine_of a.engine) a.table.now a.reply.now (Get a.site a.key) c.if-reply-ne-BYTES.true
+    hosts_nothing g.E.Engine.engine a.table.now a.reply.now (Get a.site a.key) (search rules)
 
 pub returns : goal.returns
-returns c =
+returns g c =
     let a = c.args in
-    hosts_call (engine_of a.engine) a.table.now a.reply.now (Get a.site a.key) c.get-a.result c.numbers_of.result c.if-reply-ne-BYTES.false c.get-a.ensures
-    c.numbers_of.ensures c.answer.ensures
+    hosts_call g.E.Engine.engine a.table.now a.reply.now (Get a.site a.key) c.get-a.result (search rules) c.get-a.ensures c.answer.ensures

@@ -1,10 +1,7 @@
-use Rattle.std.proofs.Common.{◌≡◌, ◌-◌, ◌≤◌, length}
+use Rattle.std.proofs.Common.{◌≡◌, length}
 use Rattle.layout.specs.State.{square}
 use Rattle.layout.specs.Records.{cells2, rows}
 use Rattle.layout.proofs.read_rows.Given as goal
 
 abbrev pub invariant-loop-i : goal.invariant-loop-i
-invariant-loop-i l = (l.from ≤ l.i) × (l.i ≤ l.to) × (l.to ≤ 8) × (length l.s ≡ square.width) × (length l.a ≡ 8) × (cells2 l.a ≡ rows l.from l.i (square.dec l.s))
-
-abbrev pub decreases-loop-i : goal.decreases-loop-i
-decreases-loop-i l = l.to - l.i
+invariant-loop-i l = (length l.a ≡ 8) × (cells2 l.a ≡ rows l.from l.i (square.dec l.s))

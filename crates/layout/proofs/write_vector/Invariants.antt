@@ -1,11 +1,8 @@
-use Rattle.std.proofs.Common.{◌≡◌, ◌-◌, ◌≤◌, length}
+use Rattle.std.proofs.Common.{◌≡◌}
 use Rattle.clock.specs.Map.{up_to}
-use Rattle.clock.specs.Clock.{cells}
+use Rattle.clock.specs.Clock.{columns}
 use Rattle.layout.specs.State.{vector}
 use Rattle.layout.proofs.write_vector.Given as goal
 
 abbrev pub invariant-loop-i : goal.invariant-loop-i
-invariant-loop-i l = (l.i ≤ 8) × (length l.s ≡ vector.width) × (vector.dec l.s ≡ up_to l.i (cells l.a) (vector.dec l.initial.s))
-
-abbrev pub decreases-loop-i : goal.decreases-loop-i
-decreases-loop-i l = 8 - l.i
+invariant-loop-i l = vector.dec l.s ≡ up_to l.i (columns l.c) (vector.dec l.initial.s)

@@ -1,38 +1,42 @@
-use Rattle.std.proofs.Common.{refl, sym, arith}
+use Rattle.std.proofs.Common.{◌≡◌, length, refl, sym, ap, rules, arith}
+use Rattle.layout.specs.State.{to_entry, state_of, table}
 use Rattle.layout.specs.Ranges.{Bytes}
 use Rattle.rules.specs.Engine.{ours}
 use Rattle.rules.specs.Steps.{done, get, look}
-use Rattle.rules.specs.Calls.{Look, step, asks}
-use Rattle.answers.proofs.Codes.{refusing}
-use Rattle.answers.proofs.Serves.{serves_refused, serves_step}
-use Rattle.refusals.proofs.Clear.{get_clear}
-use Rattle.rows.proofs.Fits.{get_fits}
+use Rattle.rules.specs.Calls.{Look, step, refusals}
+use Rattle.laws.proofs.Ready.{get_ready}
+use Rattle.answers.proofs.Serves.{other_size, refused_inside, step_taken}
 use Rattle.look.proofs.look.Goals as goal
 
-pub entry_at-seen-requires : goal.entry_at-seen-requires
-entry_at-seen-requires c =
+pub returns-in_err-t : goal.returns-in_err-t
+returns-in_err-t c = other_size ours _ (Look c.args.s c.args.x) _ (search rules) (search rules) refl
+
+pub returns-in_err-get_refusal : goal.returns-in_err-get_refusal
+unfolding refusals
+returns-in_err-get_refusal c =
     let a = c.args in
-    let p = get_clear a.t.now a.s a.x (sym c.in-Nothing.ensures) in
-    let f = (get_fits a.t.now a.s a.x p.0 p.1).entry in
-    (f.size, f.site, f.key)
+    let e : a.t.now ≡ c.in_ok-t.t.now = search rules in
+    let size : length c.in_ok-t.t.now ≡ table.width = search rules in
+    rw e (refused_inside ours _ (Look a.s a.x) _ refl size _ _ (search rules) c.in_err-get_refusal.ensures.refusal)
+
+pub record_at-seen-requires : goal.record_at-seen-requires
+unfolding refusals
+record_at-seen-requires c =
+    let R = (get_ready (state_of c.in_ok-t.t.now) c.args.s c.args.x).0 (sym c.in_ok-get_refusal.ensures.refusal) in
+    (omega (arith, R.site, R.sound.sites), omega (arith, R.key, R.sound.keys))
 
 pub overflow_cast-result : goal.overflow_cast-result
+unfolding refusals
 overflow_cast-result c =
-    let a = c.args in
-    let p = get_clear a.t.now a.s a.x (sym c.in-Nothing.ensures) in
-    omega (arith, (get_fits a.t.now a.s a.x p.0 p.1).entry.key)
+    let R = (get_ready (state_of c.in_ok-t.t.now) c.args.s c.args.x).0 (sym c.in_ok-get_refusal.ensures.refusal) in
+    omega (arith, R.key, R.sound.keys)
 
-pub returns-in-Nothing : goal.returns-in-Nothing
-unfolding Bytes step get look asks
-returns-in-Nothing c =
+pub returns : goal.returns
+unfolding Bytes step refusals get look
+returns c =
     let a = c.args in
-    let e = c.entry_at-seen.ensures in
-    serves_step ours a.t.now (Look a.s a.x) _ a.t.now refl (λ i. omega (arith, c.type_inv.t i)) (sym c.in-Nothing.ensures)
-    (λ i. done a.x (e i).origin (e i).clock (e i).value) refl
-
-pub returns-in_default : goal.returns-in_default
-unfolding asks
-returns-in_default c =
-    let r = c.get_refusal-why in
-    let a = c.args in
-    serves_refused ours a.t.now (Look a.s a.x) r.result r.ensures (refusing r.result c.in_default.not-Nothing)
+    let w = ap to_entry c.record_at-seen.ensures in
+    let e : a.t.now ≡ c.in_ok-t.t.now = search rules in
+    let size : length c.in_ok-t.t.now ≡ table.width = search rules in
+    step_taken ours _ (Look a.s a.x) _ e size _ a.t.now (rw e size) (λ i. omega (arith, c.type_inv.t i)) c.in_ok-get_refusal.ensures.refusal
+    (λ i. done a.x (w i).origin (w i).clock (w i).value) (ap state_of e)

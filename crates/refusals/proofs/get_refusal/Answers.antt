@@ -1,33 +1,36 @@
-use Rattle.std.proofs.Common.{sym, ◌∙◌, arith}
-use Rattle.layout.specs.State.{state_of}
-use Rattle.rules.specs.Calls.{asks, refusals}
+use Rattle.std.proofs.Common.{◌≡◌, sym, ◌∙◌, rules, arith}
+use Rattle.layout.specs.State.{State, state_of}
 use Rattle.rules.specs.Refusals.{first, get_refusals}
-use Rattle.answers.proofs.Codes.{first_then, first_stop, refusing}
-use Rattle.refusals.specs.Asked.{table_in, names_in}
-use Rattle.refusals.proofs.Clear.{table_clear}
+use Rattle.rules.specs.Calls.{refusals}
+use Rattle.answers.specs.Answers.{asked, code_of}
+use Rattle.answers.proofs.Codes.{asked_stop, first_then}
+use Rattle.refusals.specs.Asked.{sound_in, names_in}
 use Rattle.refusals.proofs.get_refusal.Goals as goal
 
-pub names_refusal-requires : goal.names_refusal-requires
-names_refusal-requires c =
-    let p = table_clear c.args.t.now (sym c.in-Nothing.ensures) in
-    (p.0, omega (arith, c.wide_byte.ensures.0, c.read_header-h.ensures.n, p.1.sites))
-
-pub returns-in-Nothing : goal.returns-in-Nothing
-unfolding asks refusals get_refusals
-returns-in-Nothing c =
+pub returns-in_err-counts-clause-refusal : goal.returns-in_err-counts-clause-refusal
+unfolding refusals get_refusals
+returns-in_err-counts-clause-refusal c =
     let a = c.args in
-    let h = c.read_header-h.ensures in
-    let S = state_of a.t.now in
-    let n = c.wide_byte.ensures.0 ∙ h.n in
-    let k = c.wide_byte-in-Nothing.ensures.0 ∙ h.k in
-    c.names_refusal.ensures
-    ∙ (λ i. first (names_in S (n i) (k i) a.s a.x))
-    ∙ first_then (table_in a.t.now) (names_in S S.n S.k a.s a.x) (omega arith) (sym c.in-Nothing.ensures)
+    let S : State = state_of a.t.now in
+    let w = c.in_err-counts in
+    let e : asked c.from_residual.result ≡ code_of w.field-0.0 = search rules in
+    e ∙ asked_stop (sound_in S) (names_in S S.n S.k a.s a.x) w.field-0.0 w.ensures.refusal
 
-pub returns-in_default : goal.returns-in_default
-unfolding asks refusals get_refusals
-returns-in_default c =
-    let r = c.table_refusal-why in
+pub returns-in_err-names_refusal-clause-refusal : goal.returns-in_err-names_refusal-clause-refusal
+unfolding refusals get_refusals
+returns-in_err-names_refusal-clause-refusal c =
     let a = c.args in
-    let S = state_of a.t.now in
-    r.ensures ∙ first_stop (table_in a.t.now) (names_in S S.n S.k a.s a.x) (λ z. refusing r.result c.in_default.not-Nothing (r.ensures ∙ z))
+    let S : State = state_of a.t.now in
+    let k = c.in_ok-counts.ensures in
+    let w = c.in_err-names_refusal in
+    let e : asked c.from_residual-in_err-names_refusal.result ≡ code_of w.field-0.0 = search rules in
+    e ∙ w.ensures ∙ (λ i. first (names_in S (k.counts.sites i) (k.counts.keys i) a.s a.x)) ∙ first_then (sound_in S) (names_in S S.n S.k a.s a.x) (omega arith) (sym k.refusal)
+
+pub returns-clause-refusal : goal.returns-clause-refusal
+unfolding refusals get_refusals
+returns-clause-refusal c =
+    let a = c.args in
+    let S : State = state_of a.t.now in
+    let k = c.in_ok-counts.ensures in
+    c.in_ok-names_refusal.ensures
+    ∙ (λ i. first (names_in S (k.counts.sites i) (k.counts.keys i) a.s a.x)) ∙ first_then (sound_in S) (names_in S S.n S.k a.s a.x) (omega arith) (sym k.refusal)

@@ -1,44 +1,36 @@
-use Rattle.std.proofs.Common.{◌≡◌, [], ◌∷◌, List, ℕ, Bool, true, false, nat_le, refl, sym, ◌∙◌, arith, le-leb}
-use borrow.Author.Tests.{lt-leb}
-use Rattle.layout.specs.State.{state_of}
-use Rattle.rules.specs.Live.{gone}
-use Rattle.rules.specs.Calls.{Drain, asks, refusals}
+use Rattle.std.proofs.Common.{◌≡◌, sym, ◌∙◌, rules, arith}
+use Rattle.layout.specs.State.{State, state_of}
 use Rattle.rules.specs.Refusals.{first, site_refusals}
-use Rattle.answers.proofs.Codes.{first_then, first_stop, refusing}
-use Rattle.refusals.specs.Asked.{table_in}
-use Rattle.refusals.proofs.Clear.{table_clear}
+use Rattle.rules.specs.Calls.{refusals}
+use Rattle.answers.specs.Answers.{asked, code_of}
+use Rattle.answers.proofs.Codes.{asked_stop, first_then}
+use Rattle.refusals.specs.Asked.{sound_in, live_in}
 use Rattle.refusals.proofs.site_refusal.Goals as goal
 
--- neither 1 nor 2: 4 and 16 are left to ask
-asked : (t : List ℕ) (s : ℕ) (a b : Bool) → nat_le (state_of t).n s ≡ a → gone (state_of t) s ≡ b → first (table_in t) ≡ 0 → first ((4, a) ∷ (16, b) ∷ []) ≡ first (asks t (Drain s 0))
-unfolding asks refusals site_refusals
-asked t s a b p q z = rw (p, q) (first_then (table_in t) ((4, a) ∷ (16, b) ∷ []) (omega arith) z)
-
-pub returns-then-wide_byte-s : goal.returns-then-wide_byte-s
-returns-then-wide_byte-s c =
+pub returns-in_err-counts-clause-refusal : goal.returns-in_err-counts-clause-refusal
+unfolding refusals site_refusals
+returns-in_err-counts-clause-refusal c =
     let a = c.args in
-    let S = state_of a.t.now in
-    asked a.t.now a.s true (gone S a.s) (le-leb S.n a.s (omega (arith, c.wide_byte.ensures.0, c.read_header-h.ensures.n))) refl (sym c.in-Nothing.ensures)
+    let S : State = state_of a.t.now in
+    let w = c.in_err-counts in
+    let e : asked c.from_residual.result ≡ code_of w.field-0.0 = search rules in
+    e ∙ asked_stop (sound_in S) (live_in S S.n a.s) w.field-0.0 w.ensures.refusal
 
-pub gone-requires : goal.gone-requires
-gone-requires c =
-    let p = table_clear c.args.t.now (sym c.in-Nothing.ensures) in
-    (p.0, omega (arith, c.wide_byte.ensures.0, c.read_header-h.ensures.n, p.1.sites))
-
-pub returns-then-gone : goal.returns-then-gone
-returns-then-gone c =
+pub returns-in_err-live_refusal-clause-refusal : goal.returns-in_err-live_refusal-clause-refusal
+unfolding refusals site_refusals
+returns-in_err-live_refusal-clause-refusal c =
     let a = c.args in
-    asked a.t.now a.s false true (lt-leb (state_of a.t.now).n a.s (omega (arith, c.wide_byte.ensures.0, c.read_header-h.ensures.n))) (sym c.gone.ensures ∙ c.if-gone.true) (sym c.in-Nothing.ensures)
+    let S : State = state_of a.t.now in
+    let k = c.in_ok-counts.ensures in
+    let w = c.in_err-live_refusal in
+    let e : asked c.from_residual-in_err-live_refusal.result ≡ code_of w.field-0.0 = search rules in
+    e ∙ w.ensures ∙ (λ i. first (live_in S (k.counts.sites i) a.s)) ∙ first_then (sound_in S) (live_in S S.n a.s) (omega arith) (sym k.refusal)
 
-pub returns-else-gone : goal.returns-else-gone
-returns-else-gone c =
+pub returns-clause-refusal : goal.returns-clause-refusal
+unfolding refusals site_refusals
+returns-clause-refusal c =
     let a = c.args in
-    asked a.t.now a.s false false (lt-leb (state_of a.t.now).n a.s (omega (arith, c.wide_byte.ensures.0, c.read_header-h.ensures.n))) (sym c.gone.ensures ∙ c.if-gone.false) (sym c.in-Nothing.ensures)
-
-pub returns-in_default : goal.returns-in_default
-unfolding asks refusals site_refusals
-returns-in_default c =
-    let r = c.table_refusal-why in
-    let a = c.args in
-    let S = state_of a.t.now in
-    r.ensures ∙ first_stop (table_in a.t.now) ((4, nat_le S.n a.s) ∷ (16, gone S a.s) ∷ []) (λ z. refusing r.result c.in_default.not-Nothing (r.ensures ∙ z))
+    let S : State = state_of a.t.now in
+    let k = c.in_ok-counts.ensures in
+    c.in_ok-live_refusal.ensures
+    ∙ (λ i. first (live_in S (k.counts.sites i) a.s)) ∙ first_then (sound_in S) (live_in S S.n a.s) (omega arith) (sym k.refusal)

@@ -1,26 +1,26 @@
-use Rattle.std.proofs.Common.{refl, sym, arith}
+use Rattle.std.proofs.Common.{refl, sym, rules, arith}
+use Rattle.layout.specs.State.{state_of}
 use Rattle.layout.specs.Ranges.{Bytes}
 use Rattle.rules.specs.Engine.{ours}
 use Rattle.rules.specs.Steps.{retire}
-use Rattle.rules.specs.Calls.{Retire, step}
-use Rattle.answers.proofs.Codes.{refusing}
-use Rattle.answers.proofs.Serves.{serves_refused, serves_step}
+use Rattle.rules.specs.Calls.{Retire, step, refusals}
+use Rattle.answers.proofs.Serves.{other_size, refused_inside, step_taken}
 use Rattle.retire.proofs.Retiring.{retire_fits}
 use Rattle.retire.proofs.retire.Goals as goal
 
+pub returns-in_err-t : goal.returns-in_err-t
+returns-in_err-t c = other_size ours _ (Retire c.args.s) _ (search rules) (search rules) refl
+
+pub returns-in_err-retire_refusal : goal.returns-in_err-retire_refusal
+returns-in_err-retire_refusal c =
+    refused_inside ours _ (Retire c.args.s) _ (search rules) (search rules) _ _ (search rules) c.in_err-retire_refusal.ensures
+
 pub retire_step-requires : goal.retire_step-requires
-retire_step-requires c = retire_fits c.args.t.now c.args.s (sym c.in-Nothing.ensures)
+unfolding refusals
+retire_step-requires c = retire_fits (state_of c.in_ok-t.t.now) c.args.s (sym c.in_ok-retire_refusal.ensures)
 
-pub returns-in-Nothing : goal.returns-in-Nothing
+pub returns : goal.returns
 unfolding Bytes step retire
-returns-in-Nothing c =
-    let w = c.retire_step in
-    let a = c.args in
-    serves_step ours a.t.now (Retire a.s) _ w.new.t w.auto.t (λ i. omega (arith, c.type_inv.t i)) (sym c.in-Nothing.ensures) refl w.ensures
-
-pub returns-in_default : goal.returns-in_default
-unfolding Bytes
-returns-in_default c =
-    let r = c.retire_refusal-why in
-    let a = c.args in
-    serves_refused ours a.t.now (Retire a.s) r.result r.ensures (refusing r.result c.in_default.not-Nothing)
+returns c =
+    step_taken ours _ (Retire c.args.s) _ (search rules) (search rules) _ _ (search rules) (λ i. omega (arith, c.type_inv.t i))
+    c.in_ok-retire_refusal.ensures refl c.retire_step.ensures

@@ -14,7 +14,7 @@ returns-then-rank-old_rank c =
     let old = c.rank-old_rank in
     let new = c.rank-rank in
     rw (← old.ensures, ← new.ensures, ne_eqb _ 0 c.if-old-eq0.false, le-ltb old.result new.result (omega arith), eq-eqb old.result new.result (omega arith))
-    (rw c.wide_byte.ensures.0)
+    (rw c.from.ensures)
 
 pub returns : goal.returns
 unfolding rules.outranks

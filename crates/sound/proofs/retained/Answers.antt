@@ -1,17 +1,15 @@
-use Rattle.std.proofs.Common.{sym, ◌∙◌, rules, arith}
-use Rattle.clock.proofs.Below.{all_none, all_more, all_fails}
-use Rattle.sound.proofs.Bytes.{held_at}
+use Rattle.std.proofs.Common.{◌≡◌, ℕ, Bool, suc, ◌+◌, ◌-◌, ap, ◌∙◌, rules, arith}
+use Rattle.clock.specs.Map.{all}
+use Rattle.clock.proofs.Below.{all_ran}
+use Rattle.layout.specs.State.{state_of}
+use Rattle.rules.specs.Sound.{place}
+use Rattle.sound.specs.Checks.{held_in}
 use Rattle.sound.proofs.retained.Goals as goal
 
-pub loop-i-init : goal.loop-i-init
-loop-i-init c = (search rules, all_none _)
-
-pub returns-then-not-held : goal.returns-then-not-held
-returns-then-not-held c =
+pub returns : goal.returns
+returns c =
     let a = c.args in
-    sym (all_fails _ _ c.loop-i.i (omega arith) (sym (c.held.ensures ∙ held_at a.t.now a.k a.o a.low c.loop-i.i (omega arith) c.update_place-at.ensures) ∙ c.if-not-held.true))
-
-pub loop-i-preserved : goal.loop-i-preserved
-loop-i-preserved c =
-    let a = c.args in
-    (omega arith, all_more _ _ c.loop-i.invariant.1 (sym (c.held.ensures ∙ held_at a.t.now a.k a.o a.low c.loop-i.i (omega arith) c.update_place-at.ensures) ∙ c.if-not-held.false))
+    let p : ℕ → Bool = λ c. held_in a.k c ((state_of a.t.now).updates a.o (place c)) in
+    let next : (i : ℕ) → suc (a.low + i) ≡ a.low + suc i = λ i. omega arith in
+    let ran : c.all.result ≡ all (a.top - a.low) (λ i. p (suc (a.low + i))) = all_ran (λ c. p (suc c)) c.all.ensures.ran (λ i b q k. search rules) in
+    ran ∙ ap (all (a.top - a.low)) (λ j i. p (next i j))

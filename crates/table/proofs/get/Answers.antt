@@ -1,36 +1,37 @@
-use Rattle.std.proofs.Common.{sym, arith}
+use Rattle.std.proofs.Common.{refl, sym, rules, arith}
+use Rattle.layout.specs.State.{state_of}
 use Rattle.layout.specs.Ranges.{Bytes}
 use Rattle.rules.specs.Steps.{done, get}
-use Rattle.rules.specs.Calls.{Get, step}
-use Rattle.answers.specs.Answers.{engine_of}
-use Rattle.answers.proofs.Codes.{refusing}
-use Rattle.answers.proofs.Serves.{serves_refused, serves_step}
-use Rattle.refusals.proofs.Clear.{get_clear}
+use Rattle.rules.specs.Calls.{Get, step, refusals}
+use Rattle.laws.proofs.Ready.{get_ready}
+use Rattle.answers.proofs.Serves.{other_size, refused_inside, step_taken}
 use Rattle.rows.proofs.Fits.{get_fits}
 use Rattle.table.proofs.get.Goals as goal
 
+pub returns-in_err-t : goal.returns-in_err-t
+returns-in_err-t g c = other_size g.E.Engine.engine _ (Get c.args.s c.args.x) _ (search rules) (search rules) refl
+
+pub returns-in_err-get_refusal : goal.returns-in_err-get_refusal
+returns-in_err-get_refusal g c =
+    refused_inside g.E.Engine.engine _ (Get c.args.s c.args.x) _ (search rules) (search rules) _ _ (search rules) c.in_err-get_refusal.ensures.refusal
+
 pub get_step-e-requires : goal.get_step-e-requires
-get_step-e-requires c =
+unfolding refusals
+get_step-e-requires g c =
     let a = c.args in
-    let p = get_clear a.t.now a.s a.x (sym c.in-Nothing.ensures) in
-    get_fits a.t.now a.s a.x p.0 p.1
+    let S = state_of c.in_ok-t.t.now in
+    get_fits S a.s a.x ((get_ready S a.s a.x).0 (sym c.in_ok-get_refusal.ensures.refusal))
 
 pub overflow_cast-result : goal.overflow_cast-result
-overflow_cast-result c =
-    let p = get_clear c.args.t.now c.args.s c.args.x (sym c.in-Nothing.ensures) in
-    omega (arith, p.1.key, p.1.sound.keys)
+unfolding refusals
+overflow_cast-result g c =
+    let R = (get_ready (state_of c.in_ok-t.t.now) c.args.s c.args.x).0 (sym c.in_ok-get_refusal.ensures.refusal) in
+    omega (arith, R.key, R.sound.keys)
 
-pub returns-in-Nothing : goal.returns-in-Nothing
+pub returns : goal.returns
 unfolding Bytes step get
-returns-in-Nothing c =
-    let w = c.get_step-e in
+returns g c =
     let a = c.args in
-    serves_step (engine_of a.engine) a.t.now (Get a.s a.x) _ w.new.t w.auto.t (λ i. omega (arith, c.type_inv.t i)) (sym c.in-Nothing.ensures)
-    (λ i. done a.x (w.ensures.0 i).origin (w.ensures.0 i).clock (w.ensures.0 i).value) w.ensures.1
-
-pub returns-in_default : goal.returns-in_default
-unfolding Bytes
-returns-in_default c =
-    let r = c.get_refusal-why in
-    let a = c.args in
-    serves_refused (engine_of a.engine) a.t.now (Get a.s a.x) r.result r.ensures (refusing r.result c.in_default.not-Nothing)
+    let w = c.get_step-e.ensures in
+    step_taken g.E.Engine.engine _ (Get a.s a.x) _ (search rules) (search rules) _ _ (search rules) (λ i. omega (arith, c.type_inv.t i))
+    c.in_ok-get_refusal.ensures.refusal (λ i. done a.x (w.entry i).origin (w.entry i).clock (w.entry i).value) w.after

@@ -1,34 +1,31 @@
-use Rattle.std.proofs.Common.{length, refl, sym, ap, ◌∙◌, arith, eq-eqb}
-use borrow.Author.Tests.{ne_eqb}
-use Rattle.layout.specs.State.{State, with_counts, table}
+use Rattle.std.proofs.Common.{◌≡◌, true, false, refl, ◌∙◌, rules, arith}
+use Rattle.layout.specs.State.{with_counts}
 use Rattle.layout.specs.Ranges.{Bytes}
 use Rattle.rules.specs.Engine.{ours}
 use Rattle.rules.specs.Steps.{opened}
 use Rattle.rules.specs.Refusals.{open_refusals}
-use Rattle.rules.specs.Calls.{Open, refusals, step, asks}
-use Rattle.answers.specs.declared.Refusal.TheVariants.{Size, Counts}
-use Rattle.answers.proofs.Serves.{serves_refused, serves_step}
+use Rattle.rules.specs.Calls.{Open, step, refusals}
+use Rattle.answers.specs.declared.Refusal.TheVariants.{Counts}
+use Rattle.answers.proofs.Serves.{other_size, refused_inside, step_taken}
+use Rattle.sound.specs.Checks.{range_in}
 use Rattle.table.proofs.open.Goals as goal
 
-pub returns-then-t-ne-BYTES : goal.returns-then-t-ne-BYTES
-unfolding Bytes asks refusals open_refusals
-returns-then-t-ne-BYTES c =
-    let a = c.args in
-    serves_refused ours a.t.now (Open a.n a.k) Size (rw (ne_eqb (length a.t.now) table.width c.if-t-ne-BYTES.true)) (omega arith)
+pub returns-in_err-t : goal.returns-in_err-t
+returns-in_err-t c = other_size ours _ (Open c.args.n c.args.k) _ (search rules) (search rules) refl
 
-pub returns-then-not-in_range : goal.returns-then-not-in_range
-unfolding Bytes asks refusals open_refusals
-returns-then-not-in_range c =
-    let a = c.args in
-    serves_refused ours a.t.now (Open a.n a.k) Counts
-    (rw (eq-eqb (length a.t.now) table.width c.if-t-ne-BYTES.false, sym c.in_range.ensures ∙ c.if-not-in_range.true)) (omega arith)
+pub returns-in_err-counts : goal.returns-in_err-counts
+unfolding refusals open_refusals
+returns-in_err-counts c =
+    let e : range_in c.args.n c.args.k ≡ false = search rules in
+    refused_inside ours _ (Open c.args.n c.args.k) _ (search rules) (search rules) _ Counts (search rules) (rw e)
 
 pub returns : goal.returns
-unfolding Bytes asks refusals open_refusals step opened
+unfolding Bytes step refusals open_refusals opened
 returns c =
-    let w = c.set_counts in
-    let z = c.clear in
     let a = c.args in
-    serves_step ours a.t.now (Open a.n a.k) _ w.new.t (w.auto.t ∙ z.auto.t) (λ i. omega (arith, c.type_inv.t i))
-    (rw (eq-eqb (length a.t.now) table.width c.if-t-ne-BYTES.false, sym c.in_range.ensures ∙ c.if-not-in_range.false))
-    refl (w.ensures ∙ ap (λ (S : State). with_counts S a.n a.k) z.ensures)
+    let e : range_in a.n a.k ≡ true = search rules in
+    let counts = c.in_ok-counts.counts in
+    let sites : counts.sites ≡ a.n = search rules in
+    let keys : counts.keys ≡ a.k = search rules in
+    step_taken ours a.t.now (Open a.n a.k) c.in_ok-t.t.now (search rules) (search rules) _ _ (search rules) (λ i. omega (arith, c.type_inv.t i)) (rw e) refl
+    (c.set_counts.ensures ∙ (λ i. with_counts (c.clear.ensures i) (sites i) (keys i)))

@@ -1,17 +1,12 @@
-use Rattle.std.proofs.Common.{◌≡◌, ◌∙◌, ap, ℕ, max, rules, arith}
+use Rattle.std.proofs.Common.{ℕ, rules}
 use Rattle.clock.specs.Vector.{join}
 use Rattle.clock.specs.Clock.{cells}
-use Rattle.clock.proofs.Cells.{cells_past, up_to_from, up_to_all, fill_next}
+use Rattle.clock.proofs.Cells.{made_at, cells_are, cells_past}
 use Rattle.clock.proofs.Clock.join.Goals as goal
-
-pub loop-i-preserved : goal.loop-i-preserved
-loop-i-preserved c =
-    let inv = c.loop-i.invariant in
-    let v = join (cells c.args.self.col) (cells c.args.other.col) in
-    let e : c.greater.result ≡ v c.loop-i.i = c.greater.ensures ∙ ap (λ (x : ℕ). max x (cells c.args.other.col c.loop-i.i)) (ap (λ (f : ℕ → ℕ). f c.loop-i.i) inv.2 ∙ up_to_from v (cells c.args.self.col) c.loop-i.i c.loop-i.i (omega arith)) in
-    (search rules, search rules, fill_next (λ x. x) 0 v (cells c.args.self.col) c.loop-i.a c.loop-i.i _ (omega arith) inv.2 e)
 
 pub returns : goal.returns
 returns c =
-    c.loop-i.invariant.2 ∙ up_to_all _ _ 8 c.loop-i.i (omega arith) λ j h.
-    rw (cells_past c.args.self.col 8 (search rules) j h, cells_past c.args.other.col 8 (search rules) j h)
+    let a = c.args in
+    let v : ℕ → ℕ = join (cells a.self.col) (cells a.other.col) in
+    let made = c.from_fn.ensures.items in
+    cells_are _ 8 made.long (λ j h. made_at v made (λ i b q h k. (search rules, search rules)) j 0 h) (λ j h. rw (cells_past a.self.col 8 (search rules) j h, cells_past a.other.col 8 (search rules) j h))

@@ -1,0 +1,13 @@
+use Rattle.std.proofs.Common.{◌∙◌, sym, rules}
+use Rattle.layout.specs.State.{state_of}
+use Rattle.layout.proofs.Fields.{at_place, write_part}
+use Rattle.layout.proofs.Places.{square_stands, number_placed}
+use Rattle.layout.proofs.set.Goals as goal
+
+pub returns : goal.returns
+unfolding state_of
+returns g c =
+    let w = c.write_clock in
+    let a = c.args in
+    write_part (at_place (sym c.place-at.ensures) (number_placed (square_stands g.Q.Square.which) a.s a.o c.requires.0 c.requires.1)) a.t.now w.new.s (search rules) w.auto.s
+    ∙ rw w.ensures
