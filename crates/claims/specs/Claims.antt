@@ -18,6 +18,7 @@ use Rattle.laws.specs.Theorems.{SoundTested, AcceptedSound, KeepsSound, RefusedK
 use Rattle.laws.specs.Touches.{TouchBack, FormedExactly, AgeAdds, AgedExactly, KindExactly, KindsListed, ListFilled, ColdAnswers, TouchedSays, TouchIsBoth, ScanKeepsColdness}
 use Rattle.laws.specs.Looks.{LookKeeps, GetIsBoth, AdoptIsGet, AdoptAnswers, AdoptNever, ColdKeeps}
 use Rattle.laws.specs.Agreement.{EngineFree}
+use Rattle.laws.specs.Taken.{Takes}
 use Rattle.laws.specs.Retirement.{RetireRetires, RetireBytes, RetiredKept, NothingLost}
 use Rattle.causal.specs.World.{Set, Tops, World, Run}
 use Rattle.causal.specs.History.{History, AppliedExactly, CausalRun}
@@ -67,6 +68,8 @@ pub record OfEngines : Type 0 where
   pub one_short : Demand1 short
   -- open, look, retire and the cold list do not depend on the engine
   pub engine_free : EngineFree
+  -- the law of every engine of the code, for ours and for short lists: what is taken on once is taken on
+  pub taken : Takes ours × Takes short
 
 -- "Retire a site"
 pub record OfRetirement : Type 0 where

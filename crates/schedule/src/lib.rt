@@ -122,8 +122,8 @@ pub fn play(t: &mut [u8], p: Step) -> Answer
     call(t, p)
 }
 
-// The lent bytes, since there is no heap, and how many of them are written, which the promises give. By hand, since `write!` promises what it has written
-// only where it answers Ok, and the promise of the listing holds always.
+// The lent bytes, since there is no heap, and how many are written, which the promises give. By hand: `write!` promises what
+// it has written only where it answers Ok, and the promise of the listing holds always.
 #[derive(Drop)]
 struct Output<'a> {
     bytes: &'a mut [u8],
