@@ -38,8 +38,11 @@ SHORT = ("forkcanyon.specs.ShortHost", "Promise")
 # A type parameter that is the call's engine: the promise names it first.
 ENGINE = re.compile(r"<(\w+): Engine>")
 
-# A lent buffer whose type says that it is a table, or a reply, of its size: what takes it asks that of its caller.
-SIZED = re.compile(r"&mut (?:Bytes\b|\[u8; Reply::BYTES\])")
+# Lower functions that ask of their caller by a type alone: a table, or a reply, of its size.
+SIZED = {"layout::set_counts", "layout::set_retired", "layout::clear", "reply::tell", "reply::answer"}
+
+# The engines of the code, and what each is to the rules.
+ENGINES = {"Ranked": "rules.ranked", "Short": "rules.short"}
 
 # What a promise says in place of the constructor with the numbers; of Written, the place and the text.
 SAID = {
@@ -136,6 +139,8 @@ def foreign(wanted, promise, taken, brought):
 
 def call_faults(said, exports, taken, ensures, text, proved):
     name, brought = said.split("::")[-1], set(names(text))
+    if taken.startswith("<") and not ENGINE.fullmatch(taken.partition("(")[0]):
+        yield "its type parameter is not an Engine"
     clauses = [re.fullmatch(r"ensures (?:\w+ )?\{ ((\w+) .*) \}", clause) for clause in ensures]
     promises = brought & proved.about & {*OUTCOMES, *([] if exports else [WRITTEN])}
     found = [(clause, each) for clause in clauses if clause for each in promises if each[1] == clause[2]]
@@ -165,7 +170,7 @@ def call_faults(said, exports, taken, ensures, text, proved):
 def function_faults(said, words, taken, clauses, text, proved):
     exports = exported(words)
     ensures = [clause for kind, clause in clauses if kind == "ensures"]
-    asks = len(ensures) < len(clauses) or bool(SIZED.search(taken))
+    asks = len(ensures) < len(clauses) or said in SIZED
     if not ensures:
         yield "it has no ensures"
     if exports and asks:
@@ -178,8 +183,17 @@ def function_faults(said, words, taken, clauses, text, proved):
             yield "docs/PROMISES.md has no row for it"
 
 
+def engine_faults(code):
+    """The engines are those that the promises know, each the rules' own."""
+    found = re.findall(r"\bimpl\s+[\w:]*\bEngine\s+for\s+(\w+)(?:\s*\{\s*ghost engine = \{ ([\w.]+) \};)?", code)
+    if found and (len(found) > len(ENGINES) or dict(found) != ENGINES):
+        yield f"the engines are not {ENGINES}: {found}"
+
+
 def faults(root):
     proved = Proved(root)
+    sources = [file.read_text() for file in sorted(root.glob("crates/*/src/**/*.rt"))]
+    yield from engine_faults("\n".join(sources))
     proved.table = (root / "docs" / "PROMISES.md").read_text()
     for path, text in proved.pinned:
         if text not in laws((root / path).read_text()).values():

@@ -141,10 +141,19 @@ class Small(unittest.TestCase):
         self.assertIn("not a promise that no second outcome is proved of", found(kept))
         self.assertIn("its promise is not Promise E.engine t.old", found(kept.replace("PromiseBy E.engine", "Promise")))
 
+        path = self.of(taken.replace("E: Engine", "E: rows::Engine").replace("SAID", kept), table=TABLE + "`forkcanyon_c::get`")
+        self.assertIn("get: its type parameter is not an Engine", path)
+
     def test_a_buffer_of_its_size(self):
-        taken = CODE + "pub fn wipe(t: &mut Bytes) ensures { state_of t.new ≡ all_zero } { }"
-        self.assertEqual(self.of(taken), [])
-        self.assertEqual(len(self.of(taken.replace("Bytes", "[u8]"))), 2)
+        for lent in ["t: &mut Bytes", "t: &mut [u8]", "t: &mut [u8], r: &mut [u8; Reply::BYTES]"]:
+            wipe = CODE + f"pub fn wipe({lent}) ensures {{ state_of t.new ≡ all_zero }} {{ }}"
+            self.assertEqual(len(self.of(wipe)), 2, lent)
+
+    def test_another_engine(self):
+        impls = "".join(f"impl Engine for {name} {{\n    ghost engine = {{ rules.{name.lower()} }};\n}}\n" for name in ("Ranked", "Short"))
+        self.assertEqual(self.of(CODE + impls), [])
+        for other in [impls.replace("rules.short", "rules.ranked"), impls + "impl rows::Engine for Lazy { }\n"]:
+            self.assertIn("the engines are not", " ".join(self.of(CODE + other)))
 
     def test_the_other_engine(self):
         name = "forkcanyon/specs/NoSecond.antt"
