@@ -95,32 +95,113 @@ def laws(text):
 def closing(text, at):
     """Just past the brace that closes the one at this place."""
     depth = 0
-    for end in range(at, len(text)):
-        depth += {"{": 1, "}": -1}.get(text[end], 0)
+    for brace in re.compile("[{}]").finditer(text, at):
+        depth += 1 if brace[0] == "{" else -1
         if depth == 0:
-            return end + 1
+            return brace.end()
     return len(text)
 
 
+def ending(text, at, signs):
+    """Where one of these signs stands outside brackets, the angled ones too, or the text's end."""
+    depth = 0
+    while at < len(text) and not (text[at] in signs and depth <= 0):
+        if text[at] == "{":
+            at = closing(text, at)
+            continue
+        if text[at - 1 : at + 1] not in ("->", "=>"):
+            depth += {"(": 1, "[": 1, "<": 1, ")": -1, "]": -1, ">": -1}.get(text[at], 0)
+        at += 1
+    return at
+
+
+# What no code stands in: a comment, a text, a character; but for a text of one word, as in extern "C".
+NO_CODE = re.compile(r'//[^\n]*|/\*.*?\*/|\b[bc]?r(#*)".*?"\1|b?"(?:\\.|[^"\\])*"|b?\'(?:\\.|[^\'\\])\'', re.S)
+
+
+def code(text):
+    return NO_CODE.sub(lambda found: found[0] if re.fullmatch(r'"\w*"', found[0]) else " ", text)
+
+
+def before(text, at):
+    """The words before an item of code, its attributes among them."""
+    return tight(re.split("[;{}]", text[:at])[-1])
+
+
+def blocks(text):
+    """Each impl and trait of code: the words before it, its head, where its body begins and where it ends."""
+    for item in re.finditer(r"\b(?:impl|trait)\b", text):
+        end = ending(text, item.start(), "{;")
+        if text[end : end + 1] == "{":
+            yield before(text, item.start()), tight(text[item.start() : end]), end + 1, closing(text, end)
+
+
+def shell(head):
+    """A head with nothing between its brackets, and its length."""
+    found, depth = "", 0
+    for at, sign in enumerate(head):
+        closes = sign in ">)]}" and head[at - 1 : at + 1] not in ("->", "=>")
+        depth -= closes
+        found += " " if depth > 0 else sign
+        depth += sign in "<([{"
+    return found
+
+
+def implemented(head):
+    """(trait, type) of an impl's head, or nothing where it is no impl of a trait."""
+    found = re.match(r"impl\b(?:\s*<\s*>)?\s*(.*?)\s*\bfor\b(?!\s*<\s*>(?!\s*::))\s*(.*?)(?:\s+where\b.*)?$", shell(head))
+    return found and (head[found.start(1) : found.end(1)], head[found.start(2) : found.end(2)])
+
+
 def functions(text):
-    """Each function of an .rt file: its name, the words before fn, what it takes and gives, its clauses."""
-    text = re.sub(r'//[^\n]*|/\*.*?\*/|b"(?:\\.|[^"\\])*"|b?\'(?:\\.|[^\'\\])\'', " ", text, flags=re.S)
-    places = [(0, len(text), "")]
+    """Each function of an .rt file: its name, the words before fn, what it takes and gives, its clauses.
+
+    A trait's method has the words before its trait too: it is as public as that.
+    """
+    text = code(text)
+    places = [(0, len(text), "", "")]
     for item in re.finditer(r"\bimpl\s+(\w+)\s*\{", text):
-        places.append((item.end(), closing(text, item.end() - 1), f"{item[1]}::"))
+        places.append((item.end(), closing(text, item.end() - 1), f"{item[1]}::", ""))
+    for words, head, begun, end in blocks(text):
+        if head.startswith("trait"):
+            places.append((begun, end, "", f"{words} trait "))
     for item in re.finditer(r"\bfn\s+(\w+)", text):
-        owner = max(place for place in places if place[0] <= item.start() < place[1])[2]
+        _, _, owner, within = max(place for place in places if place[0] <= item.start() < place[1])
         at, taken, clauses = item.end(), None, []
-        while (brace := text.find("{", at)) >= 0:
-            clause = re.search(r"\b(requires|ensures)(?:\s+[\w-]+)?\s*$", text[at:brace])
-            end = at + clause.start() if clause else brace
-            taken = tight(text[item.end() : end]) if taken is None else taken
-            if not clause:
+        while True:
+            end = ending(text, at, "{;")
+            clause = re.search(r"\b(requires|ensures)(?:\s+[\w-]+)?\s*$", text[at:end])
+            said = at + clause.start() if clause else end
+            taken = tight(text[item.end() : said]) if taken is None else taken
+            if not clause or text[end : end + 1] != "{":
                 break
-            at = closing(text, brace)
-            clauses.append((clause[1], tight(text[end:at])))
-        words = re.split("[;{}]", text[: item.start()])[-1]
-        yield owner + item[1], tight(words), taken or "", clauses
+            at = closing(text, end)
+            clauses.append((clause[1], tight(text[said:at])))
+        yield owner + item[1], within + before(text, item.start()), taken, clauses
+
+
+def ghosts(head, body):
+    """(name, law) for each `ghost` line of an impl or a trait, and none that stands deeper in it: with its head and the use
+    lines within, which can give its words another meaning."""
+    uses, at = re.findall(r"\bghost\s+use\b[^;]*;", body), 0
+    while at < len(body):
+        end = ending(body, at, "{;")
+        law = re.search(r"\bghost\s+(\w+)\s*[:=]\s*$", body[at:end])
+        if law:
+            begun, end = at + law.start(), ending(body, end, ";")
+            yield law[1], tight(" ".join([head, *uses, body[begun : end + 1]]))
+        at = closing(body, end) if body[end : end + 1] == "{" else end + 1
+
+
+def given(text):
+    """Each law of an .rt file by name, as <TYPE as TRAIT>::LAW of an impl."""
+    found, text = Names(), code(text)
+    for _, head, begun, end in blocks(text):
+        of = implemented(head)
+        owner = f"<{of[1]} as {of[0]}>" if of else head.partition(" ")[2]
+        for name, law in ghosts(head, text[begun : end - 1]):
+            found.declare(f"{owner}::{name}", law)
+    return found
 
 
 def exported(words):
@@ -156,12 +237,12 @@ def exported_calls(root):
 
 
 def promises(text):
-    """The head of each function of an .rt file that requires or ensures something."""
+    """The head of each function of an .rt file that requires or ensures something, and each law of a trait or an impl."""
     found = Names()
     for name, _, taken, clauses in functions(text):
         if clauses:
             found.declare(name, " ".join([f"fn {name.split('::')[-1]}{taken}", *(text for _, text in clauses)]))
-    return dict(found)
+    return {**found, **given(text)}
 
 
 def report(name, faults, fine):

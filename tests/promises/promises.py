@@ -1,4 +1,5 @@
-"""What is missing of the promises in the source, a line each. A public call is one that a C program makes, or a public
+"""What is missing of the promises in the source, a line each. A method of a public trait is a public function, and an impl
+of From, TryFrom or FromStr has the law that says what it gives. A public call is one that a C program makes, or a public
 function that asks nothing of its caller and writes a lent buffer or has a call's name. Its ensures is, to the letter,
 
     Promise BUFFER.old.. (Call NUMBER..) (OUTCOME result BUFFER.new..)
@@ -6,7 +7,8 @@ function that asks nothing of its caller and writes a lent buffer or has a call'
 with the engine of the type parameter where there is one, every lent buffer, the constructor of the function's name with every number, and
 every lent buffer again, all in the order of the parameters; one that is only read is BUFFER.now in both places. A cold
 list has the numbers alone: its promise knows the call, since it alone lends a list.
-pinned.txt has the definitions that give these words their meaning.
+pinned.txt has the definitions that give these words their meaning, the two engines, the laws of the numbers, and all that
+crate forkcanyon hands on.
 
 usage: promises.py [ROOT]
 """
@@ -17,7 +19,8 @@ from pathlib import Path
 
 HERE = Path(__file__).resolve().parents[2]
 sys.path.insert(0, str(HERE / "tools"))
-from declared import exported, functions, laws, parameters, report  # noqa: E402
+from declared import blocks, code, exported, functions, ghosts, given, implemented  # noqa: E402
+from declared import laws, parameters, report, shell, tight  # noqa: E402
 
 # Each promise by its file and name, and what puts a call's outcome together for it.
 OUTCOMES = {
@@ -36,13 +39,20 @@ WRITTEN = ("schedule.specs.Written", "Written")
 SHORT = ("forkcanyon.specs.ShortHost", "Promise")
 
 # A type parameter that is the call's engine: the promise names it first.
-ENGINE = re.compile(r"<(\w+): Engine>")
+ENGINE = re.compile(r"<([A-Z]): Engine>")
 
-# Lower functions that ask of their caller by a type alone: a table, or a reply, of its size.
+# Lower functions that ask of their caller by a type alone, a table or a reply of its size: these types.
 SIZED = {"layout::set_counts", "layout::set_retired", "layout::clear", "reply::tell", "reply::answer"}
+SIZES = {"&mut Bytes", "&mut [u8; Reply::BYTES]"}
 
-# The engines of the code, and what each is to the rules.
-ENGINES = {"Ranked": "rules.ranked", "Short": "rules.short"}
+# The law of an impl that makes one thing of another; Into and TryInto have none.
+GIVES = {"From": "from_gives", "TryFrom": "try_from_gives", "FromStr": "from_str_gives", "Into": None, "TryInto": None}
+
+# What the rules on impls know by name, so that no `use` may give it another, nor anything else its name.
+KNOWN = re.compile(rf"\b(?:rows|Engine|{'|'.join(GIVES)})\b")
+
+# The crate that has no code of its own: it hands on the library's calls.
+LIBRARY = "crates/forkcanyon/"
 
 # What a promise says in place of the constructor with the numbers; of Written, the place and the text.
 SAID = {
@@ -79,6 +89,24 @@ def names(text):
             yield module.removeprefix("Rattle."), name.strip()
 
 
+def used(text):
+    """The use lines of code, each with the words before it."""
+    return re.findall(r"(?:\b(?:ghost|pub(?:\([^)]*\))?) )*\buse\b[^;]*;", tight(text))
+
+
+def held(path, text):
+    """What pinned.txt can hold of a file: its definitions; of code its laws, its hand-outs, and `NAME of FILE` where no other
+    file brings that name in."""
+    if path.endswith(".antt"):
+        return set(laws(text).values())
+    lines = used(code(text))
+    modules = [re.match(r"ghost use Rattle\.([^\s{]+) as (\w+);", line) for line in lines]
+    brought = [*names(text), *(found.groups() for found in modules if found)]
+    alone = [(file, name) for file, name in brought if [each for _, each in brought].count(name) == 1]
+    handed = [line for line in lines if line.startswith("pub")]
+    return {*given(text).values(), *handed, *(f"{name} of {file}" for file, name in alone)}
+
+
 class Proved:
     """The theorems of no second outcome and the promises that they are about, what is pinned, the constructors."""
 
@@ -91,12 +119,16 @@ class Proved:
             if found:
                 self.about.update(names(text))
         self.pinned = [line.split(": ", 1) for line in (root / "tests/promises/pinned.txt").read_text().splitlines()]
+        self.words = {(path, name) for path, text in self.pinned if path.endswith(".antt") for name in laws(text)}
         calls = laws((root / f"crates/{CALLS.replace('.', '/')}.antt").read_text())["Call"]
         self.fields = {name: fields.split() for name, fields in re.findall(r"(\w+) : \(([^:]*) : ℕ\) → Call", calls)}
 
+    def of(self, path):
+        """What is pinned of a file."""
+        return {text for pin, text in self.pinned if pin == path}
+
     def pins(self, file, name):
-        path = f"crates/{file.replace('.', '/')}.antt"
-        return any(pin == path and name in laws(text) for pin, text in self.pinned)
+        return (f"crates/{file.replace('.', '/')}.antt", name) in self.words
 
 
 def constructor(name):
@@ -167,10 +199,14 @@ def call_faults(said, exports, taken, ensures, text, proved):
         yield f"there is no theorem {name}_no_second"
 
 
+def sized(taken):
+    return SIZES.issuperset(width for _, width in parameters(taken)[0] if width.startswith("&"))
+
+
 def function_faults(said, words, taken, clauses, text, proved):
     exports = exported(words)
     ensures = [clause for kind, clause in clauses if kind == "ensures"]
-    asks = len(ensures) < len(clauses) or said in SIZED
+    asks = len(ensures) < len(clauses) or (said in SIZED and sized(taken))
     if not ensures:
         yield "it has no ensures"
     if exports and asks:
@@ -183,30 +219,67 @@ def function_faults(said, words, taken, clauses, text, proved):
             yield "docs/PROMISES.md has no row for it"
 
 
-def engine_faults(code):
-    """The engines are those that the promises know, each the rules' own."""
-    found = re.findall(r"\bimpl\s+[\w:]*\bEngine\s+for\s+(\w+)(?:\s*\{\s*ghost engine = \{ ([\w.]+) \};)?", code)
-    if found and (len(found) > len(ENGINES) or dict(found) != ENGINES):
-        yield f"the engines are not {ENGINES}: {found}"
+def engine_faults(head, own, pinned):
+    """The trait Engine and its impls, by whatever path it is named, are those that are pinned, each the rules' own."""
+    if re.search(r"\bEngine(?:<\s*>)?\s*for\b|^trait (?:r#)?Engine\b", shell(head)) and own.get("engine") not in pinned:
+        yield f"{head}: tests/promises/pinned.txt does not have this engine"
+
+
+def gives_faults(head, own):
+    """A conversion says what it gives."""
+    trait = shell((implemented(head) or [""])[0])
+    word = (re.findall(r"\w+", trait) or [""])[-1]
+    if word in GIVES and GIVES[word] not in own:
+        yield f"{head}: it has no {GIVES[word] or 'law, and From would'}"
+
+
+def word_faults(text):
+    """What would hide an impl from these rules, or a call under another's name."""
+    if re.search(r"\bmacro_rules\b", text):
+        yield "a macro can write an impl that is not seen here"
+    if re.search(r"#\s*\[\s*from\b", text):
+        yield "the From that #[from] asks for has no law"
+    for line in used(text):
+        renames = not line.startswith("ghost ") and re.search(r"\bas\b", line)
+        if renames and (line.startswith("pub") or KNOWN.search(line)):
+            yield f"another name: {line}"
+
+
+def code_faults(path, text, proved):
+    said, pinned = code(text), proved.of(path)
+    for _, head, begun, end in blocks(said):
+        own = dict(ghosts(head, said[begun : end - 1]))
+        yield from engine_faults(head, own, pinned)
+        yield from gives_faults(head, own)
+    yield from word_faults(said)
+    # The library has no code of its own.
+    if path.startswith(LIBRARY):
+        handed = " ".join(each for pin, each in proved.pinned if pin == path)
+        if tight(re.sub(r"#!\[[^\]]*\]", " ", said)) != handed:
+            yield "it is not what tests/promises/pinned.txt says"
 
 
 def faults(root):
     proved = Proved(root)
-    sources = [file.read_text() for file in sorted(root.glob("crates/*/src/**/*.rt"))]
-    yield from engine_faults("\n".join(sources))
     proved.table = (root / "docs" / "PROMISES.md").read_text()
+    has = {path: held(path, (root / path).read_text()) for path in {path for path, _ in proved.pinned}}
     for path, text in proved.pinned:
-        if text not in laws((root / path).read_text()).values():
+        if text not in has[path]:
             yield f"{path}: it no longer has, as tests/promises/pinned.txt says: {text}"
-    for path in sorted({path for path, _ in proved.pinned}):
+    for path in sorted(has):
         renamed = [name for _, name in names((root / path).read_text()) if " as " in name]
         yield from (f"{path}: a pinned word has another meaning: {name}" for name in renamed)
+    excused = []
     for file in sorted(root.glob("crates/*/src/**/*.rt")):
-        text, crate = file.read_text(), file.relative_to(root / "crates").parts[0]
+        text, path = file.read_text(), str(file.relative_to(root))
+        crate = path.split("/")[1]
+        yield from (f"{path}: {each}" for each in code_faults(path, text, proved))
         for name, words, taken, clauses in functions(text):
             if exported(words) or re.search(r"\bpub\b", words):
                 said = f"{crate}::{name}"
+                excused += [said] if said in SIZED else []
                 yield from (f"{said}: {each}" for each in function_faults(said, words, taken, clauses, text, proved))
+    yield from (f"{said}: another function has its name" for said in sorted(SIZED) if excused.count(said) > 1)
 
 
 if __name__ == "__main__":

@@ -6,7 +6,7 @@ import tempfile
 import unittest
 from pathlib import Path
 
-from promises import HERE, faults
+from promises import HERE, LIBRARY, SIZED, faults
 
 SPECS = {
     "rules/specs/Calls.antt": """\
@@ -65,6 +65,39 @@ pub extern "C" fn fc_drain(site: u64, budget: u64, t: &mut [u8]) -> u32
 {{
     0
 }}
+"""
+ENGINES = """\
+ghost use Rattle.rules.specs.Engine as rules;
+pub trait Engine {
+    ghost engine: { rules.Engine };
+
+    fn own(s: usize) -> u8
+        requires { s < 8 }
+        ensures { result ≡ engine.own s };
+}
+
+impl Engine for Ranked {
+    ghost engine = { rules.ranked };
+
+    fn own(s: usize) -> u8 {
+        1
+    }
+}
+"""
+ROWS = "crates/forkcanyon_c/src/deep/lib.rt"
+PINNED_ENGINES = f"""\
+{PINNED}{ROWS}: rules of rules.specs.Engine
+{ROWS}: trait Engine ghost engine: {{ rules.Engine }};
+{ROWS}: impl Engine for Ranked ghost engine = {{ rules.ranked }};
+"""
+FIVE = """\
+impl From<Answer> for Five {
+    ghost from_gives = { λ a x. five_of x ≡ a };
+
+    fn from(a: Answer) -> Five {
+        a.five
+    }
+}
 """
 TABLE = "`forkcanyon_c::fc_get` `forkcanyon_c::fc_drain`"
 
@@ -143,17 +176,144 @@ class Small(unittest.TestCase):
 
         path = self.of(taken.replace("E: Engine", "E: rows::Engine").replace("SAID", kept), table=TABLE + "`forkcanyon_c::get`")
         self.assertIn("get: its type parameter is not an Engine", path)
+        named = taken.replace("<E: Engine>", "<Get: Engine>").replace("SAID", kept.replace("E.engine", "Get.engine"))
+        self.assertIn("get: its type parameter is not an Engine", self.of(named, table=TABLE + "`forkcanyon_c::get`"))
 
     def test_a_buffer_of_its_size(self):
         for lent in ["t: &mut Bytes", "t: &mut [u8]", "t: &mut [u8], r: &mut [u8; Reply::BYTES]"]:
             wipe = CODE + f"pub fn wipe({lent}) ensures {{ state_of t.new ≡ all_zero }} {{ }}"
             self.assertEqual(len(self.of(wipe)), 2, lent)
 
+    def engines(self, *changes, more=""):
+        code = CODE + ENGINES
+        for old, new in changes:
+            self.assertIn(old, code)
+            code = code.replace(old, new)
+        return [fault.removeprefix(f"{ROWS}: ") for fault in self.of(code + more, pinned=PINNED_ENGINES)]
+
+    def test_a_pinned_engine(self):
+        self.assertEqual(self.engines(), [])
+        unlike = "impl Engine for Ranked: tests/promises/pinned.txt does not have this engine"
+        gone = "it no longer has, as tests/promises/pinned.txt says: "
+        law, mine = "ghost engine = { rules.ranked };", "ghost use Rattle.rows.specs.Mine as rules; "
+        for new in ["ghost engine = { rules.short };", mine + law, ""]:
+            found = self.engines((law, new))
+            self.assertIn(f"{gone}impl Engine for Ranked {law}", found)
+            self.assertIn(unlike, found)
+        for old, new in [("rules.specs.Engine as", "rows.specs.Mine as"), ("pub trait", f"{mine}pub trait")]:
+            self.assertEqual(self.engines((old, new)), [f"{gone}rules of rules.specs.Engine"])
+
     def test_another_engine(self):
-        impls = "".join(f"impl Engine for {name} {{\n    ghost engine = {{ rules.{name.lower()} }};\n}}\n" for name in ("Ranked", "Short"))
-        self.assertEqual(self.of(CODE + impls), [])
-        for other in [impls.replace("rules.short", "rules.ranked"), impls + "impl rows::Engine for Lazy { }\n"]:
-            self.assertIn("the engines are not", " ".join(self.of(CODE + other)))
+        for head in [
+            "impl Engine for Lazy",
+            "unsafe impl Engine for Lazy",
+            "impl rows::Engine for Lazy",
+            "impl ::rows::r#Engine for Lazy",
+            "impl<T: Drop> Engine for Lazy<T>",
+            "impl<T> rows\n    ::\n    Engine\nfor Lazy<T> where T: for<'a> Fn(&'a u8) -> u8",
+            "impl<const N: usize> Engine for [u8; { N }]",
+            "impl Engine for <Lazy as Other>::Made",
+            "impl/* for */Engine/**/for(u8, u8)",
+            "impl Engine<u8> for Lazy",
+            "pub trait Engine: Sized",
+        ]:
+            for law in ["", " ghost engine = { rules.ranked };"]:
+                found = self.engines(more=f"{head} {{{law} }}\n")
+                self.assertEqual(len(found), 1, head)
+                self.assertIn("does not have this engine", found[0])
+        self.assertEqual(self.engines(more="impl Other for Lazy<Engine> { }\nfn f(e: impl Engine) { for i in e { } }\n"), [])
+
+    def test_another_name(self):
+        for line in [
+            "use crate::Engine as Kind;",
+            "use rows::{Engine as Kind, Short};",
+            "use rows::{\n    self as r,\n};",
+            "use rows as r;",
+            "use other::Kind as Engine;",
+            "use std::convert::From as Made;",
+            "pub use host::{get as put};",
+            "pub(crate) use host::get as put;",
+        ]:
+            found = self.engines(more=line)
+            self.assertEqual(found, [f"another name: {' '.join(line.split())}"])
+        self.assertEqual(self.engines(more="use std::io::Write as _;\nuse rows::{Engine, Short};\npub use host::{get, put};\n"), [])
+
+    def test_an_impl_that_is_not_seen(self):
+        for more, fault in [
+            ("macro_rules! made { ($n:ident) => { impl Engine for $n { } } }", "a macro can write an impl that is not seen here"),
+            ("enum Unserved { Refused(#[from] Refusal) }", "the From that #[from] asks for has no law"),
+        ]:
+            self.assertIn(fault, self.engines(more=more))
+        for begun, ended in [('"/*"', '"*/"'), ('r"\\"', 'r"\\"'), ('r#"""#', '"a"'), ("b'\"'", "b'\"'")]:
+            hidden = f"const A: X = {begun}; impl Engine for Lazy {{ }} const B: X = {ended};"
+            self.assertEqual(len(self.engines(more=hidden)), 1, hidden)
+
+    def test_a_traits_method(self):
+        methods = ["fn one(s: [u8; 2]) -> u8;", "fn two() -> u8 ensures { result ≡ 2 };", "fn three() -> u8 { 3 }"]
+        trait = f"WORDS trait Kind {{ {' '.join(methods)} }}\n"
+        missing = ["one: it has no ensures", "three: it has no ensures"]
+        for words in ["pub", "pub(crate)", "#[any]\npub unsafe"]:
+            self.assertEqual(self.of(CODE + trait.replace("WORDS", words)), missing)
+        self.assertEqual(self.of(CODE + trait.replace("WORDS", "")), [])
+        lent = "pub trait Kind { fn wipe(t: &mut [u8]) ensures { t.new ≡ [] }; }"
+        self.assertEqual(len(self.of(CODE + lent)), 2)
+        method = "requires { s < 8 }\n        ensures { result ≡ engine.own s }"
+        self.assertEqual(self.engines((method, "requires { s < 8 }")), ["own: it has no ensures"])
+
+    def test_a_conversion(self):
+        law = "    ghost from_gives = { λ a x. five_of x ≡ a };\n"
+        found = lambda code: [fault.removeprefix(f"{ROWS}: ") for fault in self.of(CODE + code)]
+        self.assertEqual(found(FIVE), [])
+        for other in [FIVE.replace(law, ""), FIVE + "#[cfg(other)]\n" + FIVE.replace(law, "")]:
+            self.assertEqual(found(other), ["impl From<Answer> for Five: it has no from_gives"])
+        self.assertEqual(found(FIVE.replace(law, f"    // {law.strip()}\n")), ["impl From<Answer> for Five: it has no from_gives"])
+        deeper = FIVE.replace(law, "").replace("a.five", "impl From<u8> for Six {\n" + law + "} a.five")
+        self.assertEqual(found(deeper), ["impl From<Answer> for Five: it has no from_gives"])
+        for head, gives in [
+            ("impl<T> std::convert::From<T> for Five<T> where T: for<'a> Fn(&'a u8)", "from_gives"),
+            ("impl TryFrom<usize> for Five", "try_from_gives"),
+            ("impl FromStr for Five", "from_str_gives"),
+        ]:
+            said = f"{' '.join(head.split())}: it has no {gives}"
+            self.assertEqual(found(f"{head} {{ }}\n"), [said])
+            self.assertEqual(found(f"{head} {{ ghost other = {{ ⊤ }}; }}\n"), [said])
+            self.assertEqual(found(f"{head} {{ type Error = Refusal; ghost {gives} = {{ a < b }}; }}\n"), [])
+        self.assertEqual(found("impl Into<Five> for Answer { }\n"), ["impl Into<Five> for Answer: it has no law, and From would"])
+
+    def test_a_pinned_law(self):
+        law = "impl From<Answer> for Five ghost from_gives = { λ a x. five_of x ≡ a };"
+        pinned = f"{PINNED}{ROWS}: {law}\n{ROWS}: left of host.specs.Host\n"
+        self.assertEqual(self.of(CODE + FIVE, pinned=pinned), [])
+        self.assertEqual(len(self.of(CODE + FIVE.replace("five_of x ≡ a", "⊤"), pinned=pinned)), 1)
+        twice = "ghost use Rattle.other.specs.Host.{left};\n"
+        self.assertIn("pinned.txt says: left of host.specs.Host", " ".join(self.of(CODE + FIVE + twice, pinned=pinned)))
+
+    def test_the_library(self):
+        path, lines = f"{LIBRARY}src/lib.rt", ["pub use both::look;", "pub use host::{get, put};"]
+        pinned = PINNED + "".join(f"{path}: {line}\n" for line in lines)
+        code = "// The library.\n#![tactic(auto)]\n\n" + "\n".join(lines) + "\n"
+        found = lambda code: self.of(CODE, {path.removeprefix("crates/"): code}, pinned=pinned)
+        self.assertEqual(found(code), [])
+        for old, new in [
+            ("get, put", "get as put, put as get"),
+            ("get, put", "get, put, touch"),
+            ("get, put", "*"),
+            ("host::", "table::"),
+            ("pub use both::look;", ""),
+            ("pub use both::look;", "pub use both::look;\npub mod more;"),
+            ("pub use both::look;", "use both::look;"),
+        ]:
+            self.assertIn(f"{path}: it is not what tests/promises/pinned.txt says", found(code.replace(old, new)), new)
+
+    def test_a_function_excused_by_its_size(self):
+        clear = "pub fn clear(t: LENT) ensures { state_of t.new ≡ all_zero } { }\n"
+        found = lambda code: self.of(code, crate="layout")
+        self.assertIn("layout::clear", SIZED)
+        self.assertEqual(found(clear.replace("LENT", "&mut Bytes")), [])
+        for lent in ["&mut [u8]", "&mut Bytes, u: &mut [u8]"]:
+            self.assertIn("layout::clear: docs/PROMISES.md has no row for it", found(clear.replace("LENT", lent)))
+        twice = clear + "pub mod deep { " + clear + " }"
+        self.assertEqual(found(twice.replace("LENT", "&mut Bytes")), ["layout::clear: another function has its name"])
 
     def test_the_other_engine(self):
         name = "forkcanyon/specs/NoSecond.antt"
@@ -242,25 +402,76 @@ class Small(unittest.TestCase):
 
 
 class Here(unittest.TestCase):
+    def setUp(self):
+        folder = tempfile.TemporaryDirectory()
+        self.addCleanup(folder.cleanup)
+        self.root = Path(folder.name)
+        shutil.copytree(HERE / "crates", self.root / "crates", ignore=shutil.ignore_patterns("out"))
+        shutil.copytree(HERE / "docs", self.root / "docs")
+        shutil.copytree(HERE / "tests" / "promises", self.root / "tests" / "promises")
+
+    def edited(self, name, old, new):
+        """The faults of this repository with one change in a file of crates."""
+        file = self.root / "crates" / name
+        kept = file.read_text()
+        self.assertEqual(kept.count(old), 1, old)
+        file.write_text(kept.replace(old, new))
+        found = list(faults(self.root))
+        file.write_text(kept)
+        return found
+
     def test_each_call_without_its_promise(self):
-        with tempfile.TemporaryDirectory() as folder:
-            root = Path(folder)
-            shutil.copytree(HERE / "crates", root / "crates", ignore=shutil.ignore_patterns("out"))
-            shutil.copytree(HERE / "docs", root / "docs")
-            shutil.copytree(HERE / "tests" / "promises", root / "tests" / "promises")
-            counts = {"table": 3, "look": 2, "deliver": 1, "retire": 1, "touch": 1, "cold": 1, "drain": 1}
-            counts |= {"host": 6, "both": 3, "forkcanyon_c": 9, "schedule": 3}
-            files = {f"{crate}/src/lib.rt": calls for crate, calls in counts.items()}
-            files |= {"both/src/cold_list.rt": 1, "forkcanyon_c/src/cold_list.rt": 1, "forkcanyon_c/src/short_lists.rt": 6}
-            for name, calls in files.items():
-                file, crate = root / "crates" / name, name.split("/")[0]
-                kept = file.read_text()
-                found = list(HEAD.finditer(kept))
-                self.assertEqual(len(found), calls, name)
-                for head in found:
-                    file.write_text(kept[: head.start()] + head[1] + kept[head.end() :])
-                    self.assertIn(f"{crate}::{head[2]}: it", " ".join(faults(root)))
-                file.write_text(kept)
+        counts = {"table": 3, "look": 2, "deliver": 1, "retire": 1, "touch": 1, "cold": 1, "drain": 1}
+        counts |= {"host": 6, "both": 3, "forkcanyon_c": 9, "schedule": 3}
+        files = {f"{crate}/src/lib.rt": calls for crate, calls in counts.items()}
+        files |= {"both/src/cold_list.rt": 1, "forkcanyon_c/src/cold_list.rt": 1, "forkcanyon_c/src/short_lists.rt": 6}
+        for name, calls in files.items():
+            crate, kept = name.split("/")[0], (self.root / "crates" / name).read_text()
+            found = list(HEAD.finditer(kept))
+            self.assertEqual(len(found), calls, name)
+            for head in found:
+                self.assertIn(f"{crate}::{head[2]}: it", " ".join(self.edited(name, head[0], head[1])))
+
+    def test_each_method_without_its_ensures(self):
+        kept = (self.root / "crates" / "rows" / "src" / "lib.rt").read_text()
+        trait = kept[kept.index("pub trait Engine") : kept.index("pub struct Ranked")]
+        found = re.findall(r"fn (\w+)\([^{]*\{[^}]*\}(\s+ensures \{[^}]*\});", trait)
+        self.assertEqual(len(found), trait.count("fn "))
+        for name, ensures in found:
+            self.assertEqual(self.edited("rows/src/lib.rt", ensures, ""), [f"rows::{name}: it has no ensures"])
+
+    def test_each_conversion_without_its_law(self):
+        for crate in ("answers", "numbers", "touch", "schedule"):
+            kept = (self.root / "crates" / crate / "src" / "lib.rt").read_text()
+            found = re.findall(r"    ghost ((?:try_)?from_gives) = (.*)\n", kept)
+            self.assertEqual(len(found), len(re.findall(r"^impl\b.*From<", kept, re.M)), crate)
+            for name, law in found:
+                gone = self.edited(f"{crate}/src/lib.rt", f"    ghost {name} = {law}\n", "")
+                self.assertIn(f"it has no {name}", " ".join(gone))
+
+    def test_each_pinned_word_of_code(self):
+        pinned = (self.root / "tests" / "promises" / "pinned.txt").read_text().splitlines()
+        laws = [line.split(": ", 1) for line in pinned if " ghost " in line and ".rt: " in line]
+        self.assertEqual({path.split("/")[1] for path, _ in laws}, {"rows", "answers", "numbers", "touch", "schedule"})
+        for path, text in laws:
+            line = text[text.index("ghost ") :]
+            for other in [line.replace("{ ", "{ other "), ""]:
+                found = self.edited(path.removeprefix("crates/"), line, other)
+                self.assertIn(f"{path}: it no longer has, as tests/promises/pinned.txt says: {text}", found)
+
+    def test_a_third_engine(self):
+        impl = "    ghost engine = { rules.long };\n\n    ghost takes = { long_takes };\n}\n"
+        for name, begun in [
+            ("rows", "use crate::Engine as Kind;\n\nstruct Lazy;\n\nimpl Kind for Lazy {\n"),
+            ("rows", "pub struct Lazy<T>(T);\n\nimpl<T: Drop> Engine for Lazy<T> {\n"),
+            ("table", "pub struct Lazy;\n\nimpl rows::Engine for Lazy {\n"),
+        ]:
+            first = "#![tactic(auto)]\n"
+            self.assertEqual(len(self.edited(f"{name}/src/lib.rt", first, first + begun + impl)), 1)
+
+    def test_the_library_under_other_names(self):
+        found = self.edited("forkcanyon/src/lib.rt", "drain, get, put,", "drain, get as put, put as get,")
+        self.assertIn("crates/forkcanyon/src/lib.rt: it is not what tests/promises/pinned.txt says", found)
 
 
 unittest.main()

@@ -43,6 +43,37 @@ impl Cursor {
 }
 pub fn body(s: &[u8]) -> u8 ensures { s.now } { s[0] }
 """
+TRAITS = """\
+pub trait Kind {
+    ghost kind: { ℕ };
+
+    // One.
+    fn one(&self) -> [u8; 2];
+
+    fn two(&self) -> u8
+        requires { kind < 2 }
+        ensures { result ≡ kind };
+
+    fn three(&self) -> u8 ensures { result ≡ 3 } { 3 }
+}
+
+impl<T> From<Cursor> for Kept<T> where T: for<'a> Other<'a> {
+    ghost use Rattle.a.specs.Laws.{grow};
+
+    ghost from_gives = { λ c k. k ≡ grow c };
+
+    fn from(c: Cursor) -> Kept<T> {
+        let s = b"ghost from_gives = { }";
+        Kept { c }
+    }
+}
+
+impl TryFrom<usize> for Cursor {
+    type Error = ();
+    ghost try_from_gives = { λ n r. n < 4 };
+    fn try_from(n: usize) -> Result<Cursor, ()> { Err(()) }
+}
+"""
 
 
 class Declared(unittest.TestCase):
@@ -67,6 +98,20 @@ class Declared(unittest.TestCase):
         self.assertEqual(list(found), ["Cursor::read", "body"])
         self.assertTrue(found["Cursor::read"].endswith("requires { at < 4 } ensures fits { record { fits = result } }"))
         self.assertEqual(found["body"], "fn body(s: &[u8]) -> u8 ensures { s.now }")
+
+    def test_names_of_laws_in_code(self):
+        kept = "impl<T> From<Cursor> for Kept<T> where T: for<'a> Other<'a> ghost use Rattle.a.specs.Laws.{grow};"
+        tried = "impl TryFrom<usize> for Cursor ghost try_from_gives = { λ n r. n < 4 };"
+        self.assertEqual(
+            promises(TRAITS),
+            {
+                "two": "fn two(&self) -> u8 requires { kind < 2 } ensures { result ≡ kind }",
+                "three": "fn three(&self) -> u8 ensures { result ≡ 3 }",
+                "Kind::kind": "trait Kind ghost kind: { ℕ };",
+                "<Kept<T> as From<Cursor>>::from_gives": f"{kept} ghost from_gives = {{ λ c k. k ≡ grow c }};",
+                "<Cursor as TryFrom<usize>>::try_from_gives": tried,
+            },
+        )
 
 
 class Moved(unittest.TestCase):
@@ -112,6 +157,20 @@ class Moved(unittest.TestCase):
                 "  changed  a: lib.Cursor::read",
                 "proofs: 0 changed, 0 added, 1 removed, 0 carried, 0 stayed",
                 "  removed  a: body.Answers.returns",
+            ],
+        )
+
+    def test_a_law_and_a_method_of_a_trait(self):
+        self.commit("one", {"a/src/lib.rt": TRAITS})
+        code = TRAITS.replace("grow c", "c").replace("        ensures { result ≡ kind }", "        ensures { ⊤ }")
+        self.commit("two", {"a/src/lib.rt": code.replace("    ghost try_from_gives = { λ n r. n < 4 };\n", "")})
+        self.assertEqual(
+            self.moved("one", "two").stdout.splitlines()[1:-1],
+            [
+                "promises: 2 changed, 0 added, 1 removed, 0 carried, 2 stayed",
+                "  changed  a: lib.<Kept<T> as From<Cursor>>::from_gives",
+                "  changed  a: lib.two",
+                "  removed  a: lib.<Cursor as TryFrom<usize>>::try_from_gives",
             ],
         )
 

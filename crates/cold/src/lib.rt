@@ -27,6 +27,7 @@ pub enum Kind {
 }
 
 // The lent list: 64 bytes, a key each.
+#[derive(Drop)]
 pub struct List;
 
 impl List {

@@ -25,15 +25,16 @@ fn deliver_step<E: Engine>(t: &mut Bytes, s: usize, o: usize, u: Record, c: u16)
     layout::set::<Applied>(t, s, o, c);
 }
 
-// The causes of an update, held against the applied row. Inlined, with the row read here: called by itself it keeps the
-// square twice, a delivery then takes 604 bytes of stack, and 512 is the limit.
+// The causes of an update, held against the applied row. The remainder, which is s itself, tells the compiler that s + 1 is
+// above it: with s it keeps the square twice. Inlined too, or it takes 140 bytes more of stack.
 #[inline(always)]
 fn causes(t: &Bytes, s: usize, u: Record) -> Result<(), Beyond>
     requires { s < 8 }
     ensures { result ≡ compare (columns u.depends) ((state_of t.now).applied s) }
 {
-    let a = layout::rows::<Applied>(t, s, s + 1);
-    u.depends.compare(Clock { col: a[s] })
+    let site = s % Table::SITES;
+    let a = layout::rows::<Applied>(t, site, site + 1);
+    u.depends.compare(Clock { col: a[site] })
 }
 
 // One delivery attempted, on a sound table and two of its sites, the receiver live: what is left to ask is 9 and 10.

@@ -35,6 +35,7 @@ pub struct Header {
     pub byte3: u8,
 }
 
+#[derive(Drop)]
 pub struct Table;
 
 impl Table {
@@ -55,8 +56,10 @@ impl Table {
 
     pub const SQUARE: usize = Table::SITES * Table::VECTOR;
 
-    // The bytes that are read at once.
-    pub const WORD: usize = 8;
+    // Bytes that are read at once.
+    pub const QUAD: usize = 4;
+
+    pub const WORD: usize = Table::QUAD + Table::QUAD;
 
     // Where the fields of a record stand in it: its value, its tag, its zero byte, its clock, its vector.
     pub const RECORD_VALUE: usize = 0;

@@ -10,6 +10,7 @@ ghost use Rattle.reply.specs.Told.{Replied, behind};
 use answers::{Answer, Refusal};
 use numbers::Five;
 
+#[derive(Drop)]
 pub struct Reply;
 
 impl Reply {

@@ -16,13 +16,15 @@ ghost use Rattle.rows.specs.Rows.{Row, Sent, Stored, Replaced, GetFits};
 use clock::Clock;
 use layout::{Bytes, Depends, Entries, Record, Table, Updates};
 
-// The row of s.
+// The row of s, which is its own remainder: by that the compiler knows that s + 1 is above it, and keeps one square and not
+// two.
 fn row(t: &Bytes, s: usize) -> Clock
     requires { s < 8 }
     ensures { columns result ≡ (state_of t.now).depends s }
 {
-    let d = layout::rows::<Depends>(t, s, s + 1);
-    Clock { col: d[s] }
+    let site = s % Table::SITES;
+    let d = layout::rows::<Depends>(t, site, site + 1);
+    Clock { col: d[site] }
 }
 
 // The pair (o, c) joins the row of s.
@@ -87,6 +89,7 @@ pub trait Engine {
 }
 
 // In full and ranked: a get takes the entry on, as does a put what it overwrites, and the higher rank replaces.
+#[derive(Clone, Copy)]
 pub struct Ranked;
 
 impl Engine for Ranked {
@@ -120,6 +123,7 @@ impl Engine for Ranked {
 }
 
 // As a short list: a get adds the pair of what it read, a put leaves its own alone, and every delivery replaces.
+#[derive(Clone, Copy)]
 pub struct Short;
 
 impl Engine for Short {

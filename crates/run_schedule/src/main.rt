@@ -22,10 +22,15 @@ fn read_full<R: Read>(input: &mut R, room: &mut [u8]) -> io::Result<usize>
     Ok(done)
 }
 
+// Apart from `main`, or the room for the listing is filled with zeros once more before the input is read.
+fn print_listing(rt: HostRuntime, input: &[u8]) -> io::Result<()> {
+    let mut out: [u8; Schedule::LISTING] = schedule::room();
+    let end = schedule::write_listing(input, &mut out);
+    rt.stdout().write_all(&out[..end])
+}
+
 fn main(rt: HostRuntime) -> io::Result<()> {
     let mut input: [u8; Schedule::INPUT] = schedule::room();
     let n = read_full(&mut rt.stdin(), &mut input)?;
-    let mut out: [u8; Schedule::LISTING] = schedule::room();
-    let end = schedule::write_listing(&input[..n], &mut out);
-    rt.stdout().write_all(&out[..end])
+    print_listing(rt, &input[..n])
 }

@@ -1,6 +1,6 @@
 -- Decimal digits are those of the library: the last digit and those before it, and how many there are. Assumes nothing.
 use mathlib.Core.Path.{◌≡◌, sym, ap, ◌∙◌}
-use mathlib.Core.List.{List, [], ◌∷◌, ◌++◌}
+use mathlib.Core.List.{List, [], ◌∷◌, ◌++◌, append_assoc}
 use mathlib.Core.Logic.{⊎_elim}
 use Prim.Native.Nat.{ℕ, zero, suc, ◌+◌, ◌/◌, ◌%◌, ◌^◌, ◌≤◌, ◌<◌}
 use native.Mathlib.Omega.{arith}
@@ -31,6 +31,15 @@ decimal_one n h = decimal_same n (omega arith) ∙ decimal_digit n h
 
 pub decimal_more : (n : ℕ) → 10 ≤ n → n < 2 ^ 64 → decimal n ≡ decimal (n / 10) ++ ((48 + n % 10) ∷ [])
 decimal_more n h k = decimal_same n k ∙ decimal_step n h k ∙ ap (λ (d : List ℕ). d ++ ((48 + n % 10) ∷ [])) (sym (decimal_same (n / 10) (omega arith)))
+
+pub decimal_two : (n : ℕ) → 10 ≤ n → n / 10 < 10 → decimal n ≡ (48 + n / 10) ∷ (48 + n % 10) ∷ []
+decimal_two n h l = decimal_more n h (omega arith) ∙ ap (λ (d : List ℕ). d ++ ((48 + n % 10) ∷ [])) (decimal_one (n / 10) l)
+
+pub decimal_pair : (n : ℕ) → 10 ≤ n / 10 → n < 2 ^ 64 → decimal n ≡ decimal (n / 10 / 10) ++ ((48 + n / 10 % 10) ∷ (48 + n % 10) ∷ [])
+decimal_pair n h k =
+    decimal_more n (omega arith) k
+    ∙ ap (λ (d : List ℕ). d ++ ((48 + n % 10) ∷ [])) (decimal_more (n / 10) h (omega arith))
+    ∙ append_assoc (decimal (n / 10 / 10)) ((48 + n / 10 % 10) ∷ []) ((48 + n % 10) ∷ [])
 
 pub decimal_longer : (n : ℕ) → 10 ≤ n → n < 2 ^ 64 → length (decimal n) ≡ length (decimal (n / 10)) + 1
 decimal_longer n h k = ap length (decimal_more n h k) ∙ length-append (decimal (n / 10)) ((48 + n % 10) ∷ [])

@@ -18,6 +18,7 @@ use rows::Ranked;
 
 // The most that a run takes and prints: a header of 2 bytes and 10,922 steps; a line for open and for
 // each step, and the last line. A line is six numbers of at most ten digits, each with a byte behind it.
+#[derive(Drop)]
 pub struct Schedule;
 
 impl Schedule {
@@ -140,26 +141,36 @@ impl Output<'_> {
         self.written = end;
     }
 
+    // Two digits at a step, since each step asks anew how many bytes are written.
     #[tactic(auto, using(crate::proofs::Decimal::decimal_longer))]
     fn decimal(&mut self, n: u32)
         requires { Room self.old (length (decimal n)) }
         ensures { Adds self.old (decimal n) self.new }
     {
-        if n >= 10 {
-            self.decimal(n / 10);
+        let tens = n / 10;
+        if tens >= 10 {
+            self.decimal(tens / 10);
+            self.text(&[b'0' + (tens % 10) as u8, b'0' + (n % 10) as u8]);
+        } else if n >= 10 {
+            self.text(&[b'0' + tens as u8, b'0' + (n % 10) as u8]);
+        } else {
+            self.text(&[b'0' + n as u8]);
         }
-        self.text(&[b'0' + (n % 10) as u8]);
     }
 
-    // A number in decimal and the byte behind it, at most 11 bytes.
+    // A number in decimal and the byte behind it, at most 11 bytes. Most numbers of a line are one digit, written with it.
     #[tactic(auto, using(crate::proofs::Decimal::decimal_short))]
     fn word(&mut self, n: u32, behind: u8)
         requires { Room self.old 11 }
         ensures written { Adds self.old (word n behind) self.new }
         ensures upper_bound { self.new.written ≤ self.old.written + 11 }
     {
-        self.decimal(n);
-        self.text(&[behind]);
+        if n < 10 {
+            self.text(&[b'0' + n as u8, behind]);
+        } else {
+            self.decimal(n);
+            self.text(&[behind]);
+        }
     }
 
     // Step number, code, key, site, clock, value, in decimal with single spaces.

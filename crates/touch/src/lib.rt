@@ -17,6 +17,7 @@ use rows::Engine;
 
 // What the fields of a touch record are worth, hour (16 bits), toucher (3), tier (2), eleven zeros; and how many of the last
 // two there are.
+#[derive(Drop)]
 pub struct Field;
 
 impl Field {

@@ -1,4 +1,4 @@
-use Rattle.std.proofs.Common.{◌∙◌, ap}
+use Rattle.std.proofs.Common.{◌∙◌, ap, mod-eq_of_lt, ◌%◌}
 use Rattle.clock.specs.Vector.{Vector}
 use Rattle.clock.specs.Clock as clocks
 use Rattle.layout.specs.State.{state_of}
@@ -8,4 +8,6 @@ use Rattle.deliver.proofs.causes.Goals as goal
 pub returns : goal.returns
 returns c =
     let a = c.args in
-    c.compare.ensures ∙ ap (λ (v : Vector). clocks.compare (clocks.columns a.u.depends) v) (row_read a.s (state_of a.t.now).applied c.rows-a.ensures)
+    let f = (state_of a.t.now).applied in
+    c.compare.ensures
+    ∙ ap (λ (v : Vector). clocks.compare (clocks.columns a.u.depends) v) (row_read (a.s % 8) f c.rows-a.ensures ∙ ap f (mod-eq_of_lt c.requires))
