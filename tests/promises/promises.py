@@ -49,7 +49,10 @@ SIZES = {"&mut Bytes", "&mut [u8; Reply::BYTES]"}
 GIVES = {"From": "from_gives", "TryFrom": "try_from_gives", "FromStr": "from_str_gives", "Into": None, "TryInto": None}
 
 # What the rules on impls know by name, so that no `use` may give it another, nor anything else its name.
-KNOWN = re.compile(rf"\b(?:rows|Engine|{'|'.join(GIVES)})\b")
+KNOWN = re.compile(rf"\b(?:rows|Engine|Ranked|Short|{'|'.join(GIVES)})\b")
+
+# The trait Engine, and an impl of it, by whatever path it is named.
+OF_ENGINE = re.compile(r"\bEngine(?:<\s*>)?\s*for\b|^trait (?:r#)?Engine\b")
 
 # The crate that has no code of its own: it hands on the library's calls.
 LIBRARY = "crates/forkcanyon/"
@@ -220,8 +223,8 @@ def function_faults(said, words, taken, clauses, text, proved):
 
 
 def engine_faults(head, own, pinned):
-    """The trait Engine and its impls, by whatever path it is named, are those that are pinned, each the rules' own."""
-    if re.search(r"\bEngine(?:<\s*>)?\s*for\b|^trait (?:r#)?Engine\b", shell(head)) and own.get("engine") not in pinned:
+    """The trait Engine and its impls are those that are pinned, each the rules' own."""
+    if OF_ENGINE.search(shell(head)) and own.get("engine") not in pinned:
         yield f"{head}: tests/promises/pinned.txt does not have this engine"
 
 
@@ -239,18 +242,21 @@ def word_faults(text):
         yield "a macro can write an impl that is not seen here"
     if re.search(r"#\s*\[\s*from\b", text):
         yield "the From that #[from] asks for has no law"
-    for line in used(text):
-        renames = not line.startswith("ghost ") and re.search(r"\bas\b", line)
-        if renames and (line.startswith("pub") or KNOWN.search(line)):
+    renamed = [line for line in used(text) if not line.startswith("ghost ") and re.search(r"\bas\b", line)]
+    for line in [*renamed, *re.findall(r"\btype\b[^;{]*;", tight(text))]:
+        if KNOWN.search(line) or re.match(r"pub\b.*\buse\b", line):
             yield f"another name: {line}"
 
 
 def code_faults(path, text, proved):
     said, pinned = code(text), proved.of(path)
+    engines = []
     for _, head, begun, end in blocks(said):
         own = dict(ghosts(head, said[begun : end - 1]))
+        engines += [head] if OF_ENGINE.search(shell(head)) else []
         yield from engine_faults(head, own, pinned)
         yield from gives_faults(head, own)
+    yield from (f"{head}: it stands twice" for head in sorted({*engines}) if engines.count(head) > 1)
     yield from word_faults(said)
     # The library has no code of its own.
     if path.startswith(LIBRARY):

@@ -233,6 +233,8 @@ class Small(unittest.TestCase):
             "use std::convert::From as Made;",
             "pub use host::{get as put};",
             "pub(crate) use host::get as put;",
+            "use rows::Ranked as Short;",
+            "type Quick = rows::Short;",
         ]:
             found = self.engines(more=line)
             self.assertEqual(found, [f"another name: {' '.join(line.split())}"])
@@ -468,6 +470,12 @@ class Here(unittest.TestCase):
         ]:
             first = "#![tactic(auto)]\n"
             self.assertEqual(len(self.edited(f"{name}/src/lib.rt", first, first + begun + impl)), 1)
+
+    def test_an_engine_twice(self):
+        twice = "pub struct Ranked;\n\nimpl Engine for Ranked {\n    ghost engine = { rules.ranked };\n}\n"
+        first = "#![tactic(auto)]\n"
+        found = self.edited("rows/src/lib.rt", first, first + "pub mod other {\n" + twice + "}\n")
+        self.assertIn("crates/rows/src/lib.rt: impl Engine for Ranked: it stands twice", found)
 
     def test_the_library_under_other_names(self):
         found = self.edited("forkcanyon/src/lib.rt", "drain, get, put,", "drain, get as put, put as get,")
