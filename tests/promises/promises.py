@@ -4,10 +4,10 @@ function that asks nothing of its caller and writes a lent buffer or has a call'
 
     Promise BUFFER.old.. (Call NUMBER..) (OUTCOME result BUFFER.new..)
 
-with the engine of the type parameter where there is one, every lent buffer, the constructor of the function's name with every number, and
-every lent buffer again, all in the order of the parameters; one that is only read is BUFFER.now in both places. A cold
-list has the numbers alone: its promise knows the call, since it alone lends a list.
-pinned.txt has the definitions that give these words their meaning, the two engines, the laws of the numbers, and all that
+with the engine of its last parameter where there is one, every lent buffer, the constructor of the function's name with
+every number, and every lent buffer again, all in the order of the parameters; one that is only read is BUFFER.now in both
+places. A cold list has the numbers alone: its promise knows the call, since it alone lends a list.
+pinned.txt has the definitions that give these words their meaning, the engines, the laws of the numbers, and all that
 crate forkcanyon hands on.
 
 usage: promises.py [ROOT]
@@ -38,7 +38,7 @@ WRITTEN = ("schedule.specs.Written", "Written")
 # The promise of the calls with short lists, by their names, and of no other.
 SHORT = ("forkcanyon.specs.ShortHost", "Promise")
 
-# A type parameter that is the call's engine: the promise names it first.
+# A type parameter that is the kind of the call's engine, which is its last parameter: the promise names it first.
 ENGINE = re.compile(r"<([A-Z]): Engine>")
 
 # Lower functions that ask of their caller by a type alone, a table or a reply of its size: these types.
@@ -138,8 +138,9 @@ def constructor(name):
     return "".join(word.capitalize() for word in name.removeprefix("fc_").removeprefix("short_").split("_"))
 
 
-def numbers_of(found):
-    return [each for each, width in found if not width.startswith("&")]
+def numbers_of(taken):
+    by = ENGINE.match(taken)
+    return [each for each, width in parameters(taken)[0] if not width.startswith("&") and not (by and width == by[1])]
 
 
 def expected(said, name, taken, promise):
@@ -147,8 +148,8 @@ def expected(said, name, taken, promise):
     found, _ = parameters(taken)
     lent = [each for each, width in found if width.startswith("&")]
     written = [each for each, width in found if re.match(r"&(?:'\w+ )?mut\b", width)]
-    numbers = numbers_of(found)
-    engine = f" {by[1]}.engine" if (by := ENGINE.match(taken)) else ""
+    numbers = numbers_of(taken)
+    engine = f" ({by[1]}.engine engine)" if (by := ENGINE.match(taken)) else ""
     call = SAID.get(said) or f"({' '.join([constructor(name), *numbers])})"
     met = {each: f"{each}.old" if each in written else f"{each}.now" for each in lent}
     left = {each: f"{each}.new" if each in written else f"{each}.now" for each in lent}
@@ -176,6 +177,10 @@ def call_faults(said, exports, taken, ensures, text, proved):
     name, brought = said.split("::")[-1], set(names(text))
     if taken.startswith("<") and not ENGINE.fullmatch(taken.partition("(")[0]):
         yield "its type parameter is not an Engine"
+    if by := ENGINE.match(taken):
+        found = parameters(taken)[0]
+        if found[-1:] != [("engine", by[1])] or by[1] in [width for _, width in found[:-1]]:
+            yield "it does not take one engine, at its end, as `engine`"
     clauses = [re.fullmatch(r"ensures (?:\w+ )?\{ ((\w+) .*) \}", clause) for clause in ensures]
     promises = brought & proved.about & {*OUTCOMES, *([] if exports else [WRITTEN])}
     found = [(clause, each) for clause in clauses if clause for each in promises if each[1] == clause[2]]
@@ -195,7 +200,7 @@ def call_faults(said, exports, taken, ensures, text, proved):
     for file, word in [promise, OUTCOMES.get(promise, promise)]:
         if not proved.pins(file, word):
             yield f"tests/promises/pinned.txt does not have its {word}"
-    numbers = [RENAMED.get(each, each) for each in numbers_of(parameters(taken)[0])]
+    numbers = [RENAMED.get(each, each) for each in numbers_of(taken)]
     if exports and said not in SAID and numbers != proved.fields.get(constructor(name)):
         yield f"its numbers are not those of {constructor(name)}, by name and in order"
     if promise != WRITTEN and name not in proved.theorems:

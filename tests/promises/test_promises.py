@@ -168,11 +168,14 @@ class Small(unittest.TestCase):
         self.assertEqual(self.of(lent.replace("SAID", kept)), ["get: there is no theorem get_no_second", "get: docs/PROMISES.md has no row for it"])
 
     def test_a_call_with_its_engine(self):
-        kept = "PromiseBy E.engine t.old (Get site) (left result t.new)"
-        taken = CODE + "pub fn get<E: Engine>(t: &mut [u8], site: usize) -> u8 ensures { SAID } { 0 }"
+        kept = "PromiseBy (E.engine engine) t.old (Get site) (left result t.new)"
+        taken = CODE + "pub fn get<E: Engine>(t: &mut [u8], site: usize, engine: E) -> u8 ensures { SAID } { 0 }"
         found = lambda said: " ".join(self.of(taken.replace("SAID", said), table=TABLE + "`forkcanyon_c::get`"))
         self.assertIn("not a promise that no second outcome is proved of", found(kept))
-        self.assertIn("its promise is not Promise E.engine t.old", found(kept.replace("PromiseBy E.engine", "Promise")))
+        self.assertIn("its promise is not Promise (E.engine engine) t.old", found(kept.replace("PromiseBy (E.engine engine)", "Promise")))
+        for other in [", kind: E)", ", engine: E, other: E)", ", engine: E, more: u8)", ", engine: u8)", ")"]:
+            path = self.of(taken.replace(", engine: E)", other).replace("SAID", kept), table=TABLE + "`forkcanyon_c::get`")
+            self.assertIn("get: it does not take one engine, at its end, as `engine`", path, other)
 
         path = self.of(taken.replace("E: Engine", "E: rows::Engine").replace("SAID", kept), table=TABLE + "`forkcanyon_c::get`")
         self.assertIn("get: its type parameter is not an Engine", path)

@@ -1,11 +1,13 @@
 -- The document's numbers for each case of an answer, and the promise of a call. Assumes nothing.
 use Rattle.std.specs.Prelude.{◌≡◌, List, ℕ, Result, Ok, Err}
-use Rattle.rules.specs.Engine.{Engine, ours}
+use Rattle.rules.specs.Engine.{Engine, ranked, short, ours}
 use Rattle.rules.specs.Steps.{Numbers, refused, done}
 use Rattle.rules.specs.Calls as rules
 use Rattle.rules.specs.Calls.{Served, serve}
 use Rattle.answers.specs.declared.Refusal.{Refusal}
 use Rattle.answers.specs.declared.Refusal.TheVariants.{Size, Unsound, Counts, Site, Same, Key, Spent, Full, NoNext, Unused, NoRecord, OutOfRange, Changed, Retired, LastLive}
+use Rattle.answers.specs.declared.Engine as declared
+use Rattle.answers.specs.declared.Engine.TheVariants.{Ranked, Short}
 use Rattle.answers.specs.declared.Unserved.{Unserved}
 use Rattle.answers.specs.declared.Unserved.TheVariants.{Refused, Missing, Stopped}
 use Rattle.answers.specs.declared.Done.{Done}
@@ -32,6 +34,11 @@ code_of LastLive = 17
 abbrev pub asked : {A : Type 0} → Result A Refusal → ℕ
 asked (Ok a) = 0
 asked (Err r) = code_of r
+
+-- the engine that a value chooses
+abbrev pub engine_of : declared.Engine → Engine
+engine_of Ranked = ranked
+engine_of Short = short
 
 abbrev pub Answer : Type 0
 Answer = Result Done Unserved

@@ -1,4 +1,4 @@
-// What a call answers, and why it is not served.
+// What a call answers, and why it is not served; and the two engines that a call can have.
 #![tactic(auto)]
 
 ghost use Rattle.std.specs.Prelude.{◌≡◌};
@@ -26,6 +26,13 @@ pub enum Refusal {
     Changed,
     Retired,
     LastLive,
+}
+
+// How a site keeps what it depends on, and whether puts are ranked by it: in full and ranked, or as a short list.
+#[derive(Clone, Copy)]
+pub enum Engine {
+    Ranked,
+    Short,
 }
 
 // The number of a refusal, by a match and not by the variants' own numbers: its wrong ones are tried as edits of one arm.

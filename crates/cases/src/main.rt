@@ -1,9 +1,9 @@
 // Document 01's cases that are not starred, and case 13. Each answer is a line: the case, then the answer's five numbers.
 #![tactic(auto)]
 
-use answers::Answer;
+use answers::{Answer, Engine};
 use layout::Table;
-use rows::{Engine, Ranked, Short};
+use rows::Ranked;
 use schedule::Schedule;
 use std::io;
 use std::io::Write;
@@ -31,19 +31,19 @@ fn counts(rt: HostRuntime, t: &mut [u8]) -> io::Result<()> {
 fn alone(rt: HostRuntime, t: &mut [u8]) -> io::Result<()> {
     served(table::open(t, 1, 2))?;
     for _ in 0..17 {
-        say(rt, 8, table::put::<Ranked>(t, 0, 0, 5))?;
+        say(rt, 8, table::put(t, 0, 0, 5, Ranked))?;
     }
     Ok(())
 }
 
 // 13: 0 puts 5 and 1 puts 6 on one key, each delivered to the other; then what each holds. With ranks it is 6 at both,
 // with short lists still the one delivered last.
-fn winner<E: Engine>(rt: HostRuntime, t: &mut [u8]) -> io::Result<()> {
+fn winner(rt: HostRuntime, t: &mut [u8], engine: Engine) -> io::Result<()> {
     served(table::open(t, 2, 2))?;
-    served(table::put::<E>(t, 0, 0, 5))?;
-    served(table::put::<E>(t, 1, 0, 6))?;
-    served(deliver::deliver::<E>(t, 0, 1))?;
-    served(deliver::deliver::<E>(t, 1, 0))?;
+    served(table::put(t, 0, 0, 5, engine))?;
+    served(table::put(t, 1, 0, 6, engine))?;
+    served(deliver::deliver(t, 0, 1, engine))?;
+    served(deliver::deliver(t, 1, 0, engine))?;
     say(rt, 13, look::look(t, 0, 0))?;
     say(rt, 13, look::look(t, 1, 0))
 }
@@ -51,29 +51,29 @@ fn winner<E: Engine>(rt: HostRuntime, t: &mut [u8]) -> io::Result<()> {
 // 14: step 6 of the schedule with a budget.
 fn budget(rt: HostRuntime, t: &mut [u8], b: u16) -> io::Result<()> {
     served(table::open(t, 3, 4))?;
-    served(table::put::<Ranked>(t, 0, 1, 7))?;
-    served(deliver::deliver::<Ranked>(t, 1, 0))?;
-    served(table::get::<Ranked>(t, 1, 1))?;
-    served(table::put::<Ranked>(t, 1, 2, 9))?;
+    served(table::put(t, 0, 1, 7, Ranked))?;
+    served(deliver::deliver(t, 1, 0, Ranked))?;
+    served(table::get(t, 1, 1, Ranked))?;
+    served(table::put(t, 1, 2, 9, Ranked))?;
     // Step 5 is refused with 10.
-    let _ = deliver::deliver::<Ranked>(t, 2, 1);
-    say(rt, 14, drain::drain::<Ranked>(t, 2, b))
+    let _ = deliver::deliver(t, 2, 1, Ranked);
+    say(rt, 14, drain::drain(t, 2, b, Ranked))
 }
 
 // 16: a buffer or a table that the calls do not take.
 fn calls(rt: HostRuntime, t: &mut [u8]) -> io::Result<()> {
-    say(rt, 16, table::put::<Ranked>(t, 0, 0, 5))?;
-    say(rt, 16, table::get::<Ranked>(t, 0, 0))?;
-    say(rt, 16, deliver::deliver::<Ranked>(t, 1, 0))?;
-    say(rt, 16, drain::drain::<Ranked>(t, 0, 903))
+    say(rt, 16, table::put(t, 0, 0, 5, Ranked))?;
+    say(rt, 16, table::get(t, 0, 0, Ranked))?;
+    say(rt, 16, deliver::deliver(t, 1, 0, Ranked))?;
+    say(rt, 16, drain::drain(t, 0, 903, Ranked))
 }
 
 fn main(rt: HostRuntime) -> io::Result<()> {
     let mut t = [0u8; Table::BYTES];
     counts(rt, &mut t)?;
     alone(rt, &mut t)?;
-    winner::<Ranked>(rt, &mut t)?;
-    winner::<Short>(rt, &mut t)?;
+    winner(rt, &mut t, Engine::Ranked)?;
+    winner(rt, &mut t, Engine::Short)?;
     budget(rt, &mut t, 5)?;
     budget(rt, &mut t, 6)?;
     // 15,619 bytes answers 1

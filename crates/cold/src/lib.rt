@@ -14,6 +14,7 @@ ghost use Rattle.cold.specs.Tally.{Tally};
 
 use answers::{Answer, Done, Refusal};
 use layout::{Bytes, Entries, Record};
+use refusals::inside;
 use sound::Counts;
 
 // What the cold list makes of a key.
@@ -165,7 +166,7 @@ pub fn cold(t: &[u8], list: &mut [u8], s: usize, hour: usize, threshold: usize) 
     let list = list.as_mut_array().ok_or(Refusal::OutOfRange)?;
     let hours = Hours::new(hour, threshold)?;
     let t = t.as_array().ok_or(Refusal::Size)?;
-    let counts = refusals::site_refusal(t, s)?;
+    let counts = inside::site_refusal(t, s)?;
     let c = tally(t, list, s, counts, hours);
     Ok(Done::Call {
         key: c.listed,

@@ -14,14 +14,15 @@ ghost use Rattle.deliver.specs.Fits.{DeliverFits};
 use answers::{Answer, Done, Refusal};
 use clock::{Beyond, Clock};
 use layout::{Applied, Bytes, Record, Table, Updates};
+use refusals::inside;
 use rows::Engine;
 
 // The entry of the update's key at s, if it is replaced, and the applied count.
-fn deliver_step<E: Engine>(t: &mut Bytes, s: usize, o: usize, u: Record, c: u16)
+fn deliver_step<E: Engine>(t: &mut Bytes, s: usize, o: usize, u: Record, c: u16, engine: E)
     requires { DeliverFits (state_of t.old) s o u c }
-    ensures { state_of t.new ≡ (deliver E.engine (state_of t.old) s o).after }
+    ensures { state_of t.new ≡ (deliver (E.engine engine) (state_of t.old) s o).after }
 {
-    rows::replace::<E>(t, s, o, u, c);
+    rows::replace(t, s, o, u, c, engine);
     layout::set::<Applied>(t, s, o, c);
 }
 
@@ -38,9 +39,9 @@ fn causes(t: &Bytes, s: usize, u: Record) -> Result<(), Beyond>
 }
 
 // One delivery attempted, on a sound table and two of its sites, the receiver live: what is left to ask is 9 and 10.
-pub fn attempt<E: Engine>(t: &mut Bytes, s: usize, o: usize) -> Answer
+pub fn attempt<E: Engine>(t: &mut Bytes, s: usize, o: usize, engine: E) -> Answer
     requires { Attempts (state_of t.old) s o }
-    ensures { (numbers_of result ≡ (try E.engine (state_of t.old) s o).answer) × (state_of t.new ≡ (try E.engine (state_of t.old) s o).after) }
+    ensures { (numbers_of result ≡ (try (E.engine engine) (state_of t.old) s o).answer) × (state_of t.new ≡ (try (E.engine engine) (state_of t.old) s o).after) }
 {
     let here = layout::at::<Applied>(t, s, o);
     if here == layout::at::<Applied>(t, o, o) {
@@ -49,7 +50,7 @@ pub fn attempt<E: Engine>(t: &mut Bytes, s: usize, o: usize) -> Answer
     let u = layout::record_at::<Updates>(t, o, usize::from(here) % Table::PLACES);
     causes(t, s, u)?;
     let c = rows::after(here);
-    deliver_step::<E>(t, s, o, u, c);
+    deliver_step(t, s, o, u, c, engine);
     Ok(Done::Call {
         key: u.tag,
         site: o as u8,
@@ -58,10 +59,10 @@ pub fn attempt<E: Engine>(t: &mut Bytes, s: usize, o: usize) -> Answer
     })
 }
 
-pub fn deliver<E: Engine>(t: &mut [u8], s: usize, o: usize) -> Answer
-    ensures { PromiseBy E.engine t.old (Deliver s o) (served result t.new) }
+pub fn deliver<E: Engine>(t: &mut [u8], s: usize, o: usize, engine: E) -> Answer
+    ensures { PromiseBy (E.engine engine) t.old (Deliver s o) (served result t.new) }
 {
     let t = t.as_mut_array().ok_or(Refusal::Size)?;
-    refusals::deliver_refusal(t, s, o)?;
-    attempt::<E>(t, s, o)
+    inside::deliver_refusal(t, s, o)?;
+    attempt(t, s, o, engine)
 }

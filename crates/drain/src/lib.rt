@@ -10,6 +10,7 @@ ghost use Rattle.drain.specs.Turns.{turn_of, Drains};
 
 use answers::{Answer, Done, Refusal, Unserved};
 use layout::Bytes;
+use refusals::inside;
 use rows::Engine;
 
 // Where a try is due, in a pass that has delivered or not.
@@ -50,9 +51,9 @@ fn next_turn(n: usize, s: usize, o: usize, delivered: bool) -> Option<Turn>
 }
 
 // The tries made are counted one for each delivery attempted; when one is due and the budget is spent it stops.
-fn passes<E: Engine>(t: &mut Bytes, n: usize, s: usize, budget: u16) -> Answer
+fn passes<E: Engine>(t: &mut Bytes, n: usize, s: usize, budget: u16, engine: E) -> Answer
     requires { Drains (state_of t.old) n s }
-    ensures { (numbers_of result ≡ (drain E.engine (state_of t.old) s budget).answer) × (state_of t.new ≡ (drain E.engine (state_of t.old) s budget).after) }
+    ensures { (numbers_of result ≡ (drain (E.engine engine) (state_of t.old) s budget).answer) × (state_of t.new ≡ (drain (E.engine engine) (state_of t.old) s budget).after) }
 {
     let mut turn = next_turn(n, s, 0, false);
     let mut deliveries: u16 = 0;
@@ -62,7 +63,7 @@ fn passes<E: Engine>(t: &mut Bytes, n: usize, s: usize, budget: u16) -> Answer
             return Err(Unserved::Stopped { deliveries, tries });
         }
         tries += 1;
-        turn = if deliver::attempt::<E>(t, s, origin).is_ok() {
+        turn = if deliver::attempt(t, s, origin, engine).is_ok() {
             deliveries += 1;
             Some(Turn {
                 origin,
@@ -75,10 +76,10 @@ fn passes<E: Engine>(t: &mut Bytes, n: usize, s: usize, budget: u16) -> Answer
     Ok(Done::Drain { deliveries, tries })
 }
 
-pub fn drain<E: Engine>(t: &mut [u8], s: usize, budget: u16) -> Answer
-    ensures { PromiseBy E.engine t.old (Drain s budget) (served result t.new) }
+pub fn drain<E: Engine>(t: &mut [u8], s: usize, budget: u16, engine: E) -> Answer
+    ensures { PromiseBy (E.engine engine) t.old (Drain s budget) (served result t.new) }
 {
     let t = t.as_mut_array().ok_or(Refusal::Size)?;
-    let counts = refusals::site_refusal(t, s)?;
-    passes::<E>(t, counts.sites, s, budget)
+    let counts = inside::site_refusal(t, s)?;
+    passes(t, counts.sites, s, budget, engine)
 }

@@ -1,6 +1,6 @@
 // The calls as a C program makes them: with numbers, the table's bytes and a reply of 12 bytes. Host numbers are
-// 64 bits wide, so that none is cut on the way in; the value is 32. C has no type parameter: these and the calls with short
-// lists differ in their engine alone.
+// 64 bits wide, so that none is cut on the way in; the value is 32. In C each engine has its own names: these and the
+// calls with short lists differ in their engine alone.
 #![tactic(auto)]
 
 ghost use Rattle.std.specs.Prelude.{min};
@@ -23,28 +23,28 @@ pub extern "C" fn fc_open(sites: u64, keys: u64, table: &mut [u8], reply: &mut [
 pub extern "C" fn fc_put(site: u64, key: u64, value: u32, table: &mut [u8], reply: &mut [u8]) -> u32
     ensures { Promise table.old reply.old (Put site key value) (left result table.new reply.new) }
 {
-    forkcanyon::put::<Ranked>(site, key, value, table, reply)
+    forkcanyon::put(site, key, value, table, reply, Ranked)
 }
 
 #[unsafe(no_mangle)]
 pub extern "C" fn fc_get(site: u64, key: u64, table: &mut [u8], reply: &mut [u8]) -> u32
     ensures { Promise table.old reply.old (Get site key) (left result table.new reply.new) }
 {
-    forkcanyon::get::<Ranked>(site, key, table, reply)
+    forkcanyon::get(site, key, table, reply, Ranked)
 }
 
 #[unsafe(no_mangle)]
 pub extern "C" fn fc_deliver(site: u64, origin: u64, table: &mut [u8], reply: &mut [u8]) -> u32
     ensures { Promise table.old reply.old (Deliver site origin) (left result table.new reply.new) }
 {
-    forkcanyon::deliver::<Ranked>(site, origin, table, reply)
+    forkcanyon::deliver(site, origin, table, reply, Ranked)
 }
 
 #[unsafe(no_mangle)]
 pub extern "C" fn fc_drain(site: u64, budget: u64, table: &mut [u8], reply: &mut [u8]) -> u32
     ensures { Promise table.old reply.old (Drain site (min budget most_tries)) (left result table.new reply.new) }
 {
-    forkcanyon::drain::<Ranked>(site, budget, table, reply)
+    forkcanyon::drain(site, budget, table, reply, Ranked)
 }
 
 #[unsafe(no_mangle)]
@@ -59,7 +59,7 @@ pub extern "C" fn fc_touch(
 ) -> u32
     ensures { Promise table.old reply.old (Touch site key hour toucher tier) (left result table.new reply.new) }
 {
-    forkcanyon::touch::<Ranked>(site, key, hour, toucher, tier, table, reply)
+    forkcanyon::touch(site, key, hour, toucher, tier, table, reply, Ranked)
 }
 
 #[unsafe(no_mangle)]
@@ -80,7 +80,7 @@ pub extern "C" fn fc_adopt(
 ) -> u32
     ensures { Promise table.old reply.old (Adopt site key origin clock) (left result table.new reply.new) }
 {
-    forkcanyon::adopt::<Ranked>(site, key, origin, clock, table, reply)
+    forkcanyon::adopt(site, key, origin, clock, table, reply, Ranked)
 }
 
 #[unsafe(no_mangle)]

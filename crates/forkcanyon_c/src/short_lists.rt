@@ -17,14 +17,14 @@ pub extern "C" fn fc_short_put(
 ) -> u32
     ensures { Promise table.old reply.old (Put site key value) (left result table.new reply.new) }
 {
-    forkcanyon::put::<Short>(site, key, value, table, reply)
+    forkcanyon::put(site, key, value, table, reply, Short)
 }
 
 #[unsafe(no_mangle)]
 pub extern "C" fn fc_short_get(site: u64, key: u64, table: &mut [u8], reply: &mut [u8]) -> u32
     ensures { Promise table.old reply.old (Get site key) (left result table.new reply.new) }
 {
-    forkcanyon::get::<Short>(site, key, table, reply)
+    forkcanyon::get(site, key, table, reply, Short)
 }
 
 #[unsafe(no_mangle)]
@@ -38,7 +38,7 @@ pub extern "C" fn fc_short_adopt(
 ) -> u32
     ensures { Promise table.old reply.old (Adopt site key origin clock) (left result table.new reply.new) }
 {
-    forkcanyon::adopt::<Short>(site, key, origin, clock, table, reply)
+    forkcanyon::adopt(site, key, origin, clock, table, reply, Short)
 }
 
 #[unsafe(no_mangle)]
@@ -53,7 +53,7 @@ pub extern "C" fn fc_short_touch(
 ) -> u32
     ensures { Promise table.old reply.old (Touch site key hour toucher tier) (left result table.new reply.new) }
 {
-    forkcanyon::touch::<Short>(site, key, hour, toucher, tier, table, reply)
+    forkcanyon::touch(site, key, hour, toucher, tier, table, reply, Short)
 }
 
 #[unsafe(no_mangle)]
@@ -65,12 +65,12 @@ pub extern "C" fn fc_short_deliver(
 ) -> u32
     ensures { Promise table.old reply.old (Deliver site origin) (left result table.new reply.new) }
 {
-    forkcanyon::deliver::<Short>(site, origin, table, reply)
+    forkcanyon::deliver(site, origin, table, reply, Short)
 }
 
 #[unsafe(no_mangle)]
 pub extern "C" fn fc_short_drain(site: u64, budget: u64, table: &mut [u8], reply: &mut [u8]) -> u32
     ensures { Promise table.old reply.old (Drain site (min budget most_tries)) (left result table.new reply.new) }
 {
-    forkcanyon::drain::<Short>(site, budget, table, reply)
+    forkcanyon::drain(site, budget, table, reply, Short)
 }

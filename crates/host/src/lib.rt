@@ -11,33 +11,46 @@ use reply::Reply;
 use rows::Engine;
 use touch::TouchRecord;
 
-pub fn put<E: Engine>(site: u64, key: u64, value: u32, table: &mut [u8], reply: &mut [u8]) -> u32
-    ensures { PromiseBy E.engine table.old reply.old (Put site key value) (left result table.new reply.new) }
+pub fn put<E: Engine>(
+    site: u64,
+    key: u64,
+    value: u32,
+    table: &mut [u8],
+    reply: &mut [u8],
+    engine: E,
+) -> u32
+    ensures { PromiseBy (E.engine engine) table.old reply.old (Put site key value) (left result table.new reply.new) }
 {
     let Some(reply) = reply.as_mut_array() else {
         return Reply::WRONG_SIZE;
     };
-    let a = table::put::<E>(table, site as usize, key as usize, value);
+    let a = table::put(table, site as usize, key as usize, value, engine);
     reply::answer(reply, a)
 }
 
-pub fn get<E: Engine>(site: u64, key: u64, table: &mut [u8], reply: &mut [u8]) -> u32
-    ensures { PromiseBy E.engine table.old reply.old (Get site key) (left result table.new reply.new) }
+pub fn get<E: Engine>(site: u64, key: u64, table: &mut [u8], reply: &mut [u8], engine: E) -> u32
+    ensures { PromiseBy (E.engine engine) table.old reply.old (Get site key) (left result table.new reply.new) }
 {
     let Some(reply) = reply.as_mut_array() else {
         return Reply::WRONG_SIZE;
     };
-    let a = table::get::<E>(table, site as usize, key as usize);
+    let a = table::get(table, site as usize, key as usize, engine);
     reply::answer(reply, a)
 }
 
-pub fn deliver<E: Engine>(site: u64, origin: u64, table: &mut [u8], reply: &mut [u8]) -> u32
-    ensures { PromiseBy E.engine table.old reply.old (Deliver site origin) (left result table.new reply.new) }
+pub fn deliver<E: Engine>(
+    site: u64,
+    origin: u64,
+    table: &mut [u8],
+    reply: &mut [u8],
+    engine: E,
+) -> u32
+    ensures { PromiseBy (E.engine engine) table.old reply.old (Deliver site origin) (left result table.new reply.new) }
 {
     let Some(reply) = reply.as_mut_array() else {
         return Reply::WRONG_SIZE;
     };
-    let a = deliver::deliver::<E>(table, site as usize, origin as usize);
+    let a = deliver::deliver(table, site as usize, origin as usize, engine);
     reply::answer(reply, a)
 }
 
@@ -48,13 +61,19 @@ fn tries_allowed(budget: u64) -> u16
     u16::try_from(budget).unwrap_or(u16::MAX)
 }
 
-pub fn drain<E: Engine>(site: u64, budget: u64, table: &mut [u8], reply: &mut [u8]) -> u32
-    ensures { PromiseBy E.engine table.old reply.old (Drain site (min budget most_tries)) (left result table.new reply.new) }
+pub fn drain<E: Engine>(
+    site: u64,
+    budget: u64,
+    table: &mut [u8],
+    reply: &mut [u8],
+    engine: E,
+) -> u32
+    ensures { PromiseBy (E.engine engine) table.old reply.old (Drain site (min budget most_tries)) (left result table.new reply.new) }
 {
     let Some(reply) = reply.as_mut_array() else {
         return Reply::WRONG_SIZE;
     };
-    let a = drain::drain::<E>(table, site as usize, tries_allowed(budget));
+    let a = drain::drain(table, site as usize, tries_allowed(budget), engine);
     reply::answer(reply, a)
 }
 
@@ -66,19 +85,21 @@ pub fn touch<E: Engine>(
     tier: u64,
     table: &mut [u8],
     reply: &mut [u8],
+    engine: E,
 ) -> u32
-    ensures { PromiseBy E.engine table.old reply.old (Touch site key hour toucher tier) (left result table.new reply.new) }
+    ensures { PromiseBy (E.engine engine) table.old reply.old (Touch site key hour toucher tier) (left result table.new reply.new) }
 {
     let Some(reply) = reply.as_mut_array() else {
         return reply::wrong_size(TouchRecord::new(hour as usize, toucher as usize, tier as usize));
     };
-    let a = touch::touch::<E>(
+    let a = touch::touch(
         table,
         site as usize,
         key as usize,
         hour as usize,
         toucher as usize,
         tier as usize,
+        engine,
     );
     reply::answer(reply, a)
 }
@@ -90,18 +111,20 @@ pub fn adopt<E: Engine>(
     clock: u64,
     table: &mut [u8],
     reply: &mut [u8],
+    engine: E,
 ) -> u32
-    ensures { PromiseBy E.engine table.old reply.old (Adopt site key origin clock) (left result table.new reply.new) }
+    ensures { PromiseBy (E.engine engine) table.old reply.old (Adopt site key origin clock) (left result table.new reply.new) }
 {
     let Some(reply) = reply.as_mut_array() else {
         return Reply::WRONG_SIZE;
     };
-    let a = look::adopt::<E>(
+    let a = look::adopt(
         table,
         site as usize,
         key as usize,
         origin as usize,
         clock as usize,
+        engine,
     );
     reply::answer(reply, a)
 }

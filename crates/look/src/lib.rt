@@ -10,6 +10,7 @@ ghost use Rattle.look.specs.Asked.{entry_in, named_in};
 
 use answers::{Answer, Done, Refusal};
 use layout::{Bytes, Entries};
+use refusals::inside;
 use rows::Engine;
 use sound::Counts;
 
@@ -17,7 +18,7 @@ pub fn look(t: &[u8], s: usize, x: usize) -> Answer
     ensures { Promise t.now (Look s x) (served result t.now) }
 {
     let t = t.as_array().ok_or(Refusal::Size)?;
-    refusals::get_refusal(t, s, x)?;
+    inside::get_refusal(t, s, x)?;
     let seen = layout::record_at::<Entries>(t, s, x);
     Ok(Done::Call {
         key: x as u8,
@@ -60,17 +61,17 @@ fn named_refusal(
 fn adopt_refusal(t: &Bytes, s: usize, x: usize, o: usize, c: usize) -> Result<(), Refusal>
     ensures { asked result ≡ first (refusals (state_of t.now) (Adopt s x o c)) }
 {
-    let counts = refusals::table_refusal(t)?;
+    let counts = inside::table_refusal(t)?;
     named_refusal(t, counts, s, x, o, c)
 }
 
 // Of an entry that is as named: its step is get's, and so is its answer.
-pub fn adopt<E: Engine>(t: &mut [u8], s: usize, x: usize, o: usize, c: usize) -> Answer
-    ensures { PromiseBy E.engine t.old (Adopt s x o c) (served result t.new) }
+pub fn adopt<E: Engine>(t: &mut [u8], s: usize, x: usize, o: usize, c: usize, engine: E) -> Answer
+    ensures { PromiseBy (E.engine engine) t.old (Adopt s x o c) (served result t.new) }
 {
     let t = t.as_mut_array().ok_or(Refusal::Size)?;
     adopt_refusal(t, s, x, o, c)?;
-    let e = table::get_step::<E>(t, s, x);
+    let e = table::get_step(t, s, x, engine);
     Ok(Done::Call {
         key: x as u8,
         site: e.tag,

@@ -1,7 +1,7 @@
 -- Parts of the lists of refusals, over the numbers that the code has at hand. Assumes nothing.
-use Rattle.std.specs.Prelude.{◌≡◌, Bool, false, not, ◌&&◌, ◌||◌, [], ◌∷◌, ◌≢◌, ℕ, ◌+◌, ◌<◌, eqb, leb}
+use Rattle.std.specs.Prelude.{◌≡◌, Bool, false, not, ◌&&◌, ◌||◌, List, [], ◌∷◌, ◌≢◌, ℕ, ◌+◌, ◌<◌, eqb, leb, length}
 use Rattle.clock.specs.Map.{any}
-use Rattle.layout.specs.State.{State, last_clock}
+use Rattle.layout.specs.State.{State, state_of, last_clock, table}
 use Rattle.rules.specs.Live.{gone}
 use Rattle.rules.specs.Sound.{sound, Sound}
 use Rattle.rules.specs.Refusals.{Refusals}
@@ -9,6 +9,9 @@ use Rattle.sound.specs.declared.Counts.{Counts}
 
 abbrev pub sound_in : State → Refusals
 sound_in S = (2, not (sound S)) ∷ []
+
+abbrev pub table_in : List ℕ → Refusals
+table_in t = (1, not (eqb (length t) table.width)) ∷ sound_in (state_of t)
 
 abbrev pub live_in : State → (n s : ℕ) → Refusals
 live_in S n s = (4, leb n s) ∷ (16, gone S s) ∷ []
@@ -28,6 +31,9 @@ room_in S n s = (7, eqb (S.applied s s) last_clock) ∷ (8, full_in S n s) ∷ [
 -- what is asked of a delivery but 9 and 10
 abbrev pub receives_in : State → (s o : ℕ) → Refusals
 receives_in S s o = (2, not (sound S)) ∷ sites_in S S.n s o
+
+abbrev pub deliver_in : List ℕ → (s o : ℕ) → Refusals
+deliver_in t s o = (1, not (eqb (length t) table.width)) ∷ receives_in (state_of t) s o
 
 -- the counts of the state
 pub record Counted (S : State) (c : Counts) : Type 0 where

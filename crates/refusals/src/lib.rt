@@ -1,25 +1,20 @@
-// Why a call is refused: the conditions that calls share, of a table's bytes, and those of get, put and deliver.
+// Why a call is refused: the conditions that calls share, over a lent buffer, and those of get, put and deliver. A call
+// that holds a table's bytes asks those in module inside.
 #![tactic(auto)]
 
-ghost use Rattle.std.specs.Prelude.{◌≡◌, not, ◌&&◌, ◌+◌, ◌<◌, eqb, IfOk};
+ghost use Rattle.std.specs.Prelude.{◌≡◌, not, ◌&&◌, ◌+◌, ◌≤◌, ◌<◌, eqb, IfOk};
 ghost use Rattle.layout.specs.State.{state_of};
 ghost use Rattle.rules.specs.Live.{gone};
 ghost use Rattle.rules.specs.Refusals.{first};
-ghost use Rattle.rules.specs.Calls.{Put, Get, Drain, refusals};
+ghost use Rattle.rules.specs.Calls.{Put, Get, Drain, asks};
 ghost use Rattle.answers.specs.Answers.{asked};
-ghost use Rattle.refusals.specs.Asked.{sound_in, live_in, names_in, sites_in, full_in, room_in, receives_in, Counted};
+ghost use Rattle.refusals.specs.Asked.{table_in, live_in, names_in, sites_in, full_in, room_in, deliver_in, Counted};
 
 use answers::Refusal;
 use layout::{Applied, Bytes, Table};
 use sound::Counts;
 
-// 2: the soundness of the table.
-pub fn table_refusal(t: &Bytes) -> Result<Counts, Refusal>
-    ensures refusal { asked result ≡ first (sound_in (state_of t.now)) }
-    ensures counts { IfOk result (Counted (state_of t.now)) }
-{
-    Counts::of_sound(t).ok_or(Refusal::Unsound)
-}
+pub mod inside;
 
 // Whether s is retired.
 pub fn gone(t: &Bytes, s: usize) -> bool
@@ -42,12 +37,12 @@ fn lags(t: &Bytes, i: usize, s: usize, top: usize) -> bool
 }
 
 // Some live site has applied 16 fewer of s's puts than s.
-fn full(t: &Bytes, counts: Counts, s: usize) -> bool
-    requires { s < 8 }
-    ensures { result ≡ full_in (state_of t.now) counts.sites s }
+fn full(t: &Bytes, n: usize, s: usize) -> bool
+    requires { (n ≤ 8) × (s < 8) }
+    ensures { result ≡ full_in (state_of t.now) n s }
 {
     let top = usize::from(layout::at::<Applied>(t, s, s));
-    for i in 0..counts.sites {
+    for i in 0..n {
         if lags(t, i, s, top) {
             return true;
         }
@@ -95,50 +90,52 @@ fn sites_refusal(t: &Bytes, counts: Counts, s: usize, o: usize) -> Result<(), Re
     Ok(())
 }
 
-// 7 and 8: room for one more put of s.
-pub fn room_refusal(t: &Bytes, counts: Counts, s: usize) -> Result<(), Refusal>
-    requires { s < 8 }
-    ensures { asked result ≡ first (room_in (state_of t.now) counts.sites s) }
+// 7 and 8: room for one more put of s. The number of sites alone: who has it need not know that of keys.
+pub fn room_refusal(t: &Bytes, n: usize, s: usize) -> Result<(), Refusal>
+    requires { (n ≤ 8) × (s < 8) }
+    ensures { asked result ≡ first (room_in (state_of t.now) n s) }
 {
     if layout::at::<Applied>(t, s, s) == Table::LAST_CLOCK {
         return Err(Refusal::Spent);
     }
-    if full(t, counts, s) {
+    if full(t, n, s) {
         return Err(Refusal::Full);
     }
     Ok(())
 }
 
-// 2, 4 and 16: a live site.
-pub fn site_refusal(t: &Bytes, s: usize) -> Result<Counts, Refusal>
-    ensures refusal { asked result ≡ first (refusals (state_of t.now) (Drain s 0)) }
+// 1 and 2: the buffer's size, and the soundness of the table in it.
+pub fn table_refusal(t: &[u8]) -> Result<Counts, Refusal>
+    ensures refusal { asked result ≡ first (table_in t.now) }
     ensures counts { IfOk result (Counted (state_of t.now)) }
 {
-    let counts = table_refusal(t)?;
-    live_refusal(t, counts, s)?;
-    Ok(counts)
+    inside::table_refusal(t.as_array().ok_or(Refusal::Size)?)
 }
 
-pub fn get_refusal(t: &Bytes, s: usize, x: usize) -> Result<Counts, Refusal>
-    ensures refusal { asked result ≡ first (refusals (state_of t.now) (Get s x)) }
+// 1, 2, 4 and 16: a live site.
+pub fn site_refusal(t: &[u8], s: usize) -> Result<Counts, Refusal>
+    ensures refusal { asked result ≡ first (asks t.now (Drain s 0)) }
     ensures counts { IfOk result (Counted (state_of t.now)) }
 {
-    let counts = table_refusal(t)?;
-    names_refusal(t, counts, s, x)?;
-    Ok(counts)
+    inside::site_refusal(t.as_array().ok_or(Refusal::Size)?, s)
 }
 
-pub fn put_refusal(t: &Bytes, s: usize, x: usize) -> Result<(), Refusal>
-    ensures { asked result ≡ first (refusals (state_of t.now) (Put s x 0)) }
+pub fn get_refusal(t: &[u8], s: usize, x: usize) -> Result<Counts, Refusal>
+    ensures refusal { asked result ≡ first (asks t.now (Get s x)) }
+    ensures counts { IfOk result (Counted (state_of t.now)) }
 {
-    let counts = get_refusal(t, s, x)?;
-    room_refusal(t, counts, s)
+    inside::get_refusal(t.as_array().ok_or(Refusal::Size)?, s, x)
 }
 
-// 2, 4, 5 and 16, of a delivery.
-pub fn deliver_refusal(t: &Bytes, s: usize, o: usize) -> Result<(), Refusal>
-    ensures { asked result ≡ first (receives_in (state_of t.now) s o) }
+pub fn put_refusal(t: &[u8], s: usize, x: usize) -> Result<(), Refusal>
+    ensures { asked result ≡ first (asks t.now (Put s x 0)) }
 {
-    let counts = table_refusal(t)?;
-    sites_refusal(t, counts, s, o)
+    inside::put_refusal(t.as_array().ok_or(Refusal::Size)?, s, x)
+}
+
+// 1, 2, 4, 5 and 16, of a delivery.
+pub fn deliver_refusal(t: &[u8], s: usize, o: usize) -> Result<(), Refusal>
+    ensures { asked result ≡ first (deliver_in t.now s o) }
+{
+    inside::deliver_refusal(t.as_array().ok_or(Refusal::Size)?, s, o)
 }

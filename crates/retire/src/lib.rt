@@ -11,6 +11,7 @@ ghost use Rattle.retire.specs.Fits.{RetireFits};
 
 use answers::{Answer, Done, Refusal};
 use layout::Bytes;
+use refusals::inside;
 
 // The retired sites with s among them, which was not.
 fn with_site(retired: u8, s: usize) -> u8
@@ -24,7 +25,7 @@ fn with_site(retired: u8, s: usize) -> u8
 fn retire_refusal(t: &Bytes, s: usize) -> Result<(), Refusal>
     ensures { asked result ≡ first (refusals (state_of t.now) (Retire s)) }
 {
-    let counts = refusals::site_refusal(t, s)?;
+    let counts = inside::site_refusal(t, s)?;
     let h = layout::read_header(t);
     if !sound::some_live(with_site(h.retired, s), counts.sites) {
         return Err(Refusal::LastLive);

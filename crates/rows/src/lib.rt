@@ -11,6 +11,8 @@ ghost use Rattle.rules.specs.Engine as rules;
 ghost use Rattle.rules.specs.Engine.{taken_on, outranks};
 ghost use Rattle.laws.specs.Taken.{Takes};
 ghost use Rattle.laws.proofs.Taken.{ranked_takes, short_takes};
+ghost use Rattle.answers.specs.Answers.{engine_of};
+ghost use Rattle.answers.proofs.Chosen.{engine_takes};
 ghost use Rattle.rows.specs.Rows.{Row, Sent, Stored, Replaced, GetFits};
 
 use clock::Clock;
@@ -55,37 +57,38 @@ fn take_on(t: &mut Bytes, s: usize, e: Record)
     note(t, s, origin, e.clock);
 }
 
-// How a site keeps what it depends on, and whether puts are ranked by it.
-pub trait Engine {
+// How a site keeps what it depends on, and whether puts are ranked by it. A call is given one: a type of a single
+// value, or a value that chooses.
+pub trait Engine: Copy {
     // The engine of the rules that it is.
-    ghost engine: { rules.Engine };
+    ghost engine: { Self → rules.Engine };
 
     // What a get makes of the row.
-    fn learn_row(t: &mut Bytes, s: usize, e: Record)
+    fn learn_row(self, t: &mut Bytes, s: usize, e: Record)
         requires { (s < 8) × (e.tag < 8) }
-        ensures { Row (state_of t.old) s (engine.learned ((state_of t.old).depends s) (entry_of e)) (state_of t.new) };
+        ensures { Row (state_of t.old) s ((engine self).learned ((state_of t.old).depends s) (entry_of e)) (state_of t.new) };
 
     // What a put makes of it first.
-    fn learn_old(t: &mut Bytes, s: usize, x: usize)
+    fn learn_old(self, t: &mut Bytes, s: usize, x: usize)
         requires { GetFits (state_of t.old) s x }
-        ensures { Row (state_of t.old) s (engine.sent ((state_of t.old).depends s) ((state_of t.old).store s x)) (state_of t.new) };
+        ensures { Row (state_of t.old) s ((engine self).sent ((state_of t.old).depends s) ((state_of t.old).store s x)) (state_of t.new) };
 
     // With what an own put is stored.
-    fn own(t: &Bytes, s: usize) -> Clock
+    fn own(self, t: &Bytes, s: usize) -> Clock
         requires { s < 8 }
-        ensures { columns result ≡ engine.own ((state_of t.now).depends s) };
+        ensures { columns result ≡ (engine self).own ((state_of t.now).depends s) };
 
     // The row after the put (s, c).
-    fn leave_row(t: &mut Bytes, s: usize, c: u16)
+    fn leave_row(self, t: &mut Bytes, s: usize, c: u16)
         requires { s < 8 }
-        ensures { Row (state_of t.old) s (engine.left ((state_of t.old).depends s) s c) (state_of t.new) };
+        ensures { Row (state_of t.old) s ((engine self).left ((state_of t.old).depends s) s c) (state_of t.new) };
 
     // Whether the update replaces the entry of x at s.
-    fn replaces(t: &Bytes, s: usize, x: usize, u: Record, o: usize) -> bool
+    fn replaces(self, t: &Bytes, s: usize, x: usize, u: Record, o: usize) -> bool
         requires { (s < 8) × (x < 64) }
-        ensures { result ≡ engine.replaces (update_of u) o ((state_of t.now).store s x) };
+        ensures { result ≡ (engine self).replaces (update_of u) o ((state_of t.now).store s x) };
 
-    ghost takes: { Takes engine };
+    ghost takes: { (e : Self) → Takes (engine e) };
 }
 
 // In full and ranked: a get takes the entry on, as does a put what it overwrites, and the higher rank replaces.
@@ -93,15 +96,15 @@ pub trait Engine {
 pub struct Ranked;
 
 impl Engine for Ranked {
-    ghost engine = { rules.ranked };
+    ghost engine = { λ _. rules.ranked };
 
-    ghost takes = { ranked_takes };
+    ghost takes = { λ _. ranked_takes };
 
-    fn learn_row(t: &mut Bytes, s: usize, e: Record) {
+    fn learn_row(self, t: &mut Bytes, s: usize, e: Record) {
         take_on(t, s, e);
     }
 
-    fn learn_old(t: &mut Bytes, s: usize, x: usize) {
+    fn learn_old(self, t: &mut Bytes, s: usize, x: usize) {
         let e = layout::record_at::<Entries>(t, s, x);
         if e.clock != 0 {
             take_on(t, s, e);
@@ -109,15 +112,15 @@ impl Engine for Ranked {
     }
 
     // Its update's vector, the row again: read anew it is one copy of 16 bytes.
-    fn own(t: &Bytes, s: usize) -> Clock {
+    fn own(self, t: &Bytes, s: usize) -> Clock {
         row(t, s)
     }
 
-    fn leave_row(t: &mut Bytes, s: usize, c: u16) {
+    fn leave_row(self, t: &mut Bytes, s: usize, c: u16) {
         note(t, s, s, c);
     }
 
-    fn replaces(t: &Bytes, s: usize, x: usize, u: Record, o: usize) -> bool {
+    fn replaces(self, t: &Bytes, s: usize, x: usize, u: Record, o: usize) -> bool {
         outranks(u, o, layout::record_at::<Entries>(t, s, x))
     }
 }
@@ -127,27 +130,85 @@ impl Engine for Ranked {
 pub struct Short;
 
 impl Engine for Short {
-    ghost engine = { rules.short };
+    ghost engine = { λ _. rules.short };
 
-    ghost takes = { short_takes };
+    ghost takes = { λ _. short_takes };
 
-    fn learn_row(t: &mut Bytes, s: usize, e: Record) {
+    fn learn_row(self, t: &mut Bytes, s: usize, e: Record) {
         note(t, s, usize::from(e.tag), e.clock);
     }
 
-    fn learn_old(_t: &mut Bytes, _s: usize, _x: usize) {}
+    fn learn_old(self, _t: &mut Bytes, _s: usize, _x: usize) {}
 
-    fn own(_t: &Bytes, _s: usize) -> Clock {
+    fn own(self, _t: &Bytes, _s: usize) -> Clock {
         Clock::zero()
     }
 
-    fn leave_row(t: &mut Bytes, s: usize, c: u16) {
+    fn leave_row(self, t: &mut Bytes, s: usize, c: u16) {
         layout::set_row::<Depends>(t, s, Clock::zero().note(s, c));
     }
 
-    fn replaces(_t: &Bytes, _s: usize, _x: usize, _u: Record, _o: usize) -> bool {
+    fn replaces(self, _t: &Bytes, _s: usize, _x: usize, _u: Record, _o: usize) -> bool {
         true
     }
+}
+
+// One of the two, by a value that a caller chooses as it runs: hence a match in each.
+impl Engine for answers::Engine {
+    ghost engine = { engine_of };
+
+    ghost takes = { engine_takes };
+
+    fn learn_row(self, t: &mut Bytes, s: usize, e: Record) {
+        match self {
+            answers::Engine::Ranked => Ranked.learn_row(t, s, e),
+            answers::Engine::Short => Short.learn_row(t, s, e),
+        }
+    }
+
+    fn learn_old(self, t: &mut Bytes, s: usize, x: usize) {
+        match self {
+            answers::Engine::Ranked => Ranked.learn_old(t, s, x),
+            answers::Engine::Short => Short.learn_old(t, s, x),
+        }
+    }
+
+    fn own(self, t: &Bytes, s: usize) -> Clock {
+        match self {
+            answers::Engine::Ranked => Ranked.own(t, s),
+            answers::Engine::Short => Short.own(t, s),
+        }
+    }
+
+    fn leave_row(self, t: &mut Bytes, s: usize, c: u16) {
+        match self {
+            answers::Engine::Ranked => Ranked.leave_row(t, s, c),
+            answers::Engine::Short => Short.leave_row(t, s, c),
+        }
+    }
+
+    fn replaces(self, t: &Bytes, s: usize, x: usize, u: Record, o: usize) -> bool {
+        match self {
+            answers::Engine::Ranked => Ranked.replaces(t, s, x, u, o),
+            answers::Engine::Short => Short.replaces(t, s, x, u, o),
+        }
+    }
+}
+
+// What a get makes of the row: it takes on the entry, or its pair alone.
+pub fn learn_row<E: Engine>(t: &mut Bytes, s: usize, e: Record, engine: E)
+    requires { (s < 8) × (e.tag < 8) }
+    ensures { Row (state_of t.old) s ((E.engine engine).learned ((state_of t.old).depends s) (entry_of e)) (state_of t.new) }
+{
+    engine.learn_row(t, s, e);
+}
+
+// A put first takes on the dependence of the entry it overwrites, as a get would; with short lists it does not.
+pub fn learn_old<E: Engine>(t: &mut Bytes, s: usize, x: usize, engine: E)
+    requires { GetFits (state_of t.old) s x }
+    ensures { Row (state_of t.old) s ((E.engine engine).sent ((state_of t.old).depends s) ((state_of t.old).store s x)) (state_of t.new) }
+{
+    engine.learn_old(t, s, x);
 }
 
 // One more than a clock that is not the last.
@@ -199,12 +260,20 @@ fn set_put(t: &mut Bytes, s: usize, x: usize, o: usize, v: u32, c: u16, depends:
     );
 }
 
-pub fn store_own<E: Engine>(t: &mut Bytes, s: usize, x: usize, v: u32, c: u16)
+pub fn store_own<E: Engine>(t: &mut Bytes, s: usize, x: usize, v: u32, c: u16, engine: E)
     requires { (s < 8) × (x < 64) }
-    ensures { Stored (state_of t.old) s x s v c (E.engine.own ((state_of t.old).depends s)) (state_of t.new) }
+    ensures { Stored (state_of t.old) s x s v c ((E.engine engine).own ((state_of t.old).depends s)) (state_of t.new) }
 {
-    let own = E::own(t, s);
+    let own = engine.own(t, s);
     set_put(t, s, x, s, v, c, own);
+}
+
+// The row after the put (s, c): the pair joins it, or is all that is left.
+pub fn leave_row<E: Engine>(t: &mut Bytes, s: usize, c: u16, engine: E)
+    requires { s < 8 }
+    ensures { Row (state_of t.old) s ((E.engine engine).left ((state_of t.old).depends s) s c) (state_of t.new) }
+{
+    engine.leave_row(t, s, c);
 }
 
 // The old entry is never written, or its rank is lower, or equal with an origin not higher. Tried as an order of pairs, for
@@ -224,12 +293,12 @@ fn outranks(u: Record, o: usize, old: Record) -> bool
 }
 
 // The entry of the update's key at s, where the update replaces it.
-pub fn replace<E: Engine>(t: &mut Bytes, s: usize, o: usize, u: Record, c: u16)
+pub fn replace<E: Engine>(t: &mut Bytes, s: usize, o: usize, u: Record, c: u16, engine: E)
     requires { (s < 8) × (o < 8) × (u.tag < 64) }
-    ensures { Replaced E.engine (state_of t.old) s o (update_of u) c (state_of t.new) }
+    ensures { Replaced (E.engine engine) (state_of t.old) s o (update_of u) c (state_of t.new) }
 {
     let x = usize::from(u.tag);
-    if E::replaces(t, s, x, u, o) {
+    if engine.replaces(t, s, x, u, o) {
         set_put(t, s, x, o, u.value, c, u.depends);
     }
 }

@@ -105,10 +105,10 @@ fn call(t: &mut [u8], p: Step) -> Answer
     let site = usize::from(p.site);
     let key = usize::from(p.key);
     match Operation::from(p.operation) {
-        Operation::Put => table::put::<Ranked>(t, site, key, p.value),
-        Operation::Get => table::get::<Ranked>(t, site, key),
-        Operation::Deliver => deliver::deliver::<Ranked>(t, site, usize::from(p.origin)),
-        Operation::Drain => drain::drain::<Ranked>(t, site, Schedule::BUDGET),
+        Operation::Put => table::put(t, site, key, p.value, Ranked),
+        Operation::Get => table::get(t, site, key, Ranked),
+        Operation::Deliver => deliver::deliver(t, site, usize::from(p.origin), Ranked),
+        Operation::Drain => drain::drain(t, site, Schedule::BUDGET, Ranked),
     }
 }
 

@@ -12,30 +12,31 @@ ghost use Rattle.table.specs.Fits.{PutFits};
 
 use answers::{Answer, Done, Refusal};
 use layout::{Applied, Bytes, Entries, Record};
+use refusals::inside;
 use rows::Engine;
 use sound::Counts;
 
 // The update at its place, the entry, the applied count and the row, which has taken on what is overwritten.
-pub fn put_step<E: Engine>(t: &mut Bytes, s: usize, x: usize, v: u32) -> u16
-    requires { PutFits E.engine (state_of t.old) s x }
+pub fn put_step<E: Engine>(t: &mut Bytes, s: usize, x: usize, v: u32, engine: E) -> u16
+    requires { PutFits (E.engine engine) (state_of t.old) s x }
     ensures clock { result ≡ next (state_of t.old) s s }
-    ensures after { state_of t.new ≡ (put E.engine (state_of t.old) s x v).after }
+    ensures after { state_of t.new ≡ (put (E.engine engine) (state_of t.old) s x v).after }
 {
     let c = rows::after(layout::at::<Applied>(t, s, s));
     rows::send(t, s, x, v, c);
-    rows::store_own::<E>(t, s, x, v, c);
+    rows::store_own(t, s, x, v, c, engine);
     layout::set::<Applied>(t, s, s, c);
-    E::leave_row(t, s, c);
+    rows::leave_row(t, s, c, engine);
     c
 }
 
-pub fn put<E: Engine>(t: &mut [u8], s: usize, x: usize, v: u32) -> Answer
-    ensures { PromiseBy E.engine t.old (Put s x v) (served result t.new) }
+pub fn put<E: Engine>(t: &mut [u8], s: usize, x: usize, v: u32, engine: E) -> Answer
+    ensures { PromiseBy (E.engine engine) t.old (Put s x v) (served result t.new) }
 {
     let t = t.as_mut_array().ok_or(Refusal::Size)?;
-    refusals::put_refusal(t, s, x)?;
-    E::learn_old(t, s, x);
-    let c = put_step::<E>(t, s, x, v);
+    inside::put_refusal(t, s, x)?;
+    rows::learn_old(t, s, x, engine);
+    let c = put_step(t, s, x, v, engine);
     Ok(Done::Call {
         key: x as u8,
         site: s as u8,
@@ -45,25 +46,25 @@ pub fn put<E: Engine>(t: &mut [u8], s: usize, x: usize, v: u32) -> Answer
 }
 
 // The entry; if its clock is not 0, the dependency row takes it on.
-pub fn get_step<E: Engine>(t: &mut Bytes, s: usize, x: usize) -> Record
+pub fn get_step<E: Engine>(t: &mut Bytes, s: usize, x: usize, engine: E) -> Record
     requires { GetFits (state_of t.old) s x }
     ensures entry { entry_of result ≡ (state_of t.old).store s x }
-    ensures after { state_of t.new ≡ learn E.engine (state_of t.old) s x }
+    ensures after { state_of t.new ≡ learn (E.engine engine) (state_of t.old) s x }
 {
     let e = layout::record_at::<Entries>(t, s, x);
     if e.clock == 0 {
         return e;
     }
-    E::learn_row(t, s, e);
+    rows::learn_row(t, s, e, engine);
     e
 }
 
-pub fn get<E: Engine>(t: &mut [u8], s: usize, x: usize) -> Answer
-    ensures { PromiseBy E.engine t.old (Get s x) (served result t.new) }
+pub fn get<E: Engine>(t: &mut [u8], s: usize, x: usize, engine: E) -> Answer
+    ensures { PromiseBy (E.engine engine) t.old (Get s x) (served result t.new) }
 {
     let t = t.as_mut_array().ok_or(Refusal::Size)?;
-    refusals::get_refusal(t, s, x)?;
-    let e = get_step::<E>(t, s, x);
+    inside::get_refusal(t, s, x)?;
+    let e = get_step(t, s, x, engine);
     Ok(Done::Call {
         key: x as u8,
         site: e.tag,

@@ -13,6 +13,7 @@ ghost use Rattle.touch.specs.Touchers.{number_of};
 
 use answers::{Answer, Done, Refusal};
 use layout::{Bytes, Entries, Record};
+use refusals::inside;
 use rows::Engine;
 
 // What the fields of a touch record are worth, hour (16 bits), toucher (3), tier (2), eleven zeros; and how many of the last
@@ -152,9 +153,9 @@ fn record_refusal(e: Record, toucher: Toucher) -> Result<(), Refusal>
 fn table_refusal(t: &Bytes, s: usize, x: usize, toucher: Toucher) -> Result<(), Refusal>
     ensures { asked result ≡ first (touch_refusals (state_of t.now) s x (number_of toucher)) }
 {
-    let counts = refusals::get_refusal(t, s, x)?;
+    let counts = inside::get_refusal(t, s, x)?;
     record_refusal(layout::record_at::<Entries>(t, s, x), toucher)?;
-    refusals::room_refusal(t, counts, s)
+    refusals::room_refusal(t, counts.sites, s)
 }
 
 // Gets the key and puts its record; refused, it has not got it either. The toucher and the tier are numbers, as C gives them:
@@ -166,15 +167,16 @@ pub fn touch<E: Engine>(
     hour: usize,
     toucher: usize,
     tier: usize,
+    engine: E,
 ) -> Answer
-    ensures { PromiseBy E.engine t.old (Touch s x hour toucher tier) (served result t.new) }
+    ensures { PromiseBy (E.engine engine) t.old (Touch s x hour toucher tier) (served result t.new) }
 {
     let record = TouchRecord::new(hour, toucher, tier)?;
     let t = t.as_mut_array().ok_or(Refusal::Size)?;
     table_refusal(t, s, x, record.toucher)?;
-    let e = table::get_step::<E>(t, s, x);
+    let e = table::get_step(t, s, x, engine);
     let v = record.over(e.value);
-    let c = table::put_step::<E>(t, s, x, v);
+    let c = table::put_step(t, s, x, v, engine);
     Ok(Done::Call {
         key: x as u8,
         site: s as u8,

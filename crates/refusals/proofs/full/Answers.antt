@@ -15,7 +15,7 @@ tested c =
     c.lags.ensures ∙ ap (λ (m : ℕ). not (gone S c.loop-i.i) && (S.applied c.loop-i.i c.args.s + 16 == m)) (c.from-top.ensures ∙ c.at.ensures)
 
 pub returns-then-lags : goal.returns-then-lags
-returns-then-lags c = sym (any_found _ c.args.counts.sites c.loop-i.i (omega arith) (sym (tested (goal.at.returns-then-lags c).After-lags) ∙ c.if-lags.true))
+returns-then-lags c = sym (any_found _ c.args.n c.loop-i.i (omega arith) (sym (tested (goal.at.returns-then-lags c).After-lags) ∙ c.if-lags.true))
 
 pub loop-i-preserved : goal.loop-i-preserved
 loop-i-preserved c = any_more _ _ c.loop-i.invariant (sym (tested (goal.at.loop-i-preserved c).After-lags) ∙ c.if-lags.false)
