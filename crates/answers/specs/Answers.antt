@@ -40,6 +40,10 @@ abbrev pub engine_of : declared.Engine → Engine
 engine_of Ranked = ranked
 engine_of Short = short
 
+-- ours is the ranked one, and the other is that with short lists
+abbrev pub Chosen : Type 0
+Chosen = (engine_of Ranked ≡ ours) × (engine_of Short ≡ short)
+
 abbrev pub Answer : Type 0
 Answer = Result Done Unserved
 

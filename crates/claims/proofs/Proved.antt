@@ -26,6 +26,7 @@ use Rattle.laws.proofs.Tries.{drain_rises, tries_bounded, pending_bounded, budge
 use Rattle.laws.proofs.Fitting.{ours_fits, short_fits}
 use Rattle.laws.proofs.Sharing.{engine_free}
 use Rattle.laws.proofs.Taken.{ranked_takes, short_takes}
+use Rattle.answers.proofs.Chosen.{chosen}
 use Rattle.laws.proofs.Retiring.{retire_retires, retire_bytes, nothing_lost}
 use Rattle.causal.proofs.Progress.{run_causal}
 use Rattle.causal.proofs.Vectors.{same_answers}
@@ -82,7 +83,7 @@ claims =
     record {
       demands = record { one = demand1 ours ours_fits; nothing_delivered = nothing_delivered; two = demand2; three = demand3 };
       stores = record { one_winner = one_winner; drained = drained_equal };
-      engines = record { agreement = agreement; one_short = demand1 short short_fits; engine_free = engine_free; taken = (ranked_takes, short_takes) };
+      engines = record { agreement = agreement; one_short = demand1 short short_fits; engine_free = engine_free; taken = (ranked_takes, short_takes); chosen = chosen };
       retirement = record { retires = retire_retires; in_bytes = retire_bytes; kept = retired_kept; nothing_lost = nothing_lost };
       histories =
           record {

@@ -28,6 +28,7 @@ use Rattle.demands.specs.Demands.{Demand1, Demand2, Demand3, NothingDelivered, p
 use Rattle.demands.specs.Stores.{OneWinner, DrainedEqual}
 use Rattle.demands.specs.Agreement.{Agreement}
 use Rattle.demands.specs.Schedule.{schedule, by_hand, looking, adopting, adopted, winning, closing, closed}
+use Rattle.answers.specs.Answers.{Chosen}
 use Rattle.answers.specs.NoSecond as table
 use Rattle.table.specs.Worked as worked
 use Rattle.host.specs.Host.{most_tries}
@@ -70,6 +71,8 @@ pub record OfEngines : Type 0 where
   pub engine_free : EngineFree
   -- the law of every engine of the code, for ours and for short lists: what is taken on once is taken on
   pub taken : Takes ours × Takes short
+  -- a value of the code that chooses an engine chooses one of these two
+  pub chosen : Chosen
 
 -- "Retire a site"
 pub record OfRetirement : Type 0 where

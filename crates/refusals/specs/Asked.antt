@@ -10,6 +10,7 @@ use Rattle.sound.specs.declared.Counts.{Counts}
 abbrev pub sound_in : State → Refusals
 sound_in S = (2, not (sound S)) ∷ []
 
+-- 1, "the table buffer is not 15,620 bytes", and 2
 abbrev pub table_in : List ℕ → Refusals
 table_in t = (1, not (eqb (length t) table.width)) ∷ sound_in (state_of t)
 
@@ -32,6 +33,7 @@ room_in S n s = (7, eqb (S.applied s s) last_clock) ∷ (8, full_in S n s) ∷ [
 abbrev pub receives_in : State → (s o : ℕ) → Refusals
 receives_in S s o = (2, not (sound S)) ∷ sites_in S S.n s o
 
+-- the same over a lent buffer, whose size is asked first
 abbrev pub deliver_in : List ℕ → (s o : ℕ) → Refusals
 deliver_in t s o = (1, not (eqb (length t) table.width)) ∷ receives_in (state_of t) s o
 

@@ -1,4 +1,4 @@
-// What is asked of a table's bytes, once their number is known.
+// What is asked of a table's bytes: all but 1, the size of the buffer that they stand in.
 ghost use Rattle.std.specs.Prelude.{◌≡◌, IfOk};
 ghost use Rattle.layout.specs.State.{state_of};
 ghost use Rattle.rules.specs.Refusals.{first};

@@ -26,5 +26,5 @@ unfolding Bytes step refusals
 returns g c =
     let a = c.args in
     let w = c.passes.ensures in
-    step_taken (g.E.Engine.engine c.args.engine) _ (Drain a.s a.budget) _ (search rules) (search rules) _ _ (search rules) (λ i. omega (arith, c.type_inv.t i))
+    step_taken (g.E.Engine.engine a.engine) _ (Drain a.s a.budget) _ (search rules) (search rules) _ _ (search rules) (λ i. omega (arith, c.type_inv.t i))
     c.in_ok-counts.ensures.refusal w.0 w.1

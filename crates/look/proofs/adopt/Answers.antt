@@ -34,5 +34,5 @@ unfolding Bytes step get
 returns g c =
     let a = c.args in
     let w = c.get_step-e.ensures in
-    step_taken (g.E.Engine.engine c.args.engine) _ (Adopt a.s a.x a.o a.c) _ (search rules) (search rules) _ _ (search rules) (λ i. omega (arith, c.type_inv.t i))
+    step_taken (g.E.Engine.engine a.engine) _ (Adopt a.s a.x a.o a.c) _ (search rules) (search rules) _ _ (search rules) (λ i. omega (arith, c.type_inv.t i))
     c.in_ok-adopt_refusal.ensures (λ i. done a.x (w.entry i).origin (w.entry i).clock (w.entry i).value) w.after

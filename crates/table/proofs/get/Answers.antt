@@ -33,5 +33,5 @@ unfolding Bytes step get
 returns g c =
     let a = c.args in
     let w = c.get_step-e.ensures in
-    step_taken (g.E.Engine.engine c.args.engine) _ (Get a.s a.x) _ (search rules) (search rules) _ _ (search rules) (λ i. omega (arith, c.type_inv.t i))
+    step_taken (g.E.Engine.engine a.engine) _ (Get a.s a.x) _ (search rules) (search rules) _ _ (search rules) (λ i. omega (arith, c.type_inv.t i))
     c.in_ok-get_refusal.ensures.refusal (λ i. done a.x (w.entry i).origin (w.entry i).clock (w.entry i).value) w.after

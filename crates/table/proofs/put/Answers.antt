@@ -36,7 +36,7 @@ put_step-c-requires g c =
       site = f.site;
       key = f.key;
       clock = λ z. R.clock (sym (ap (λ (S : State). S.applied a.s a.s) e) ∙ z);
-      taken = sends_as_is S a.s a.x (g.E.Engine.engine c.args.engine) (g.met.E.Engine.takes c.args.engine) _ e;
+      taken = sends_as_is S a.s a.x (g.E.Engine.engine a.engine) (g.met.E.Engine.takes a.engine) _ e;
     }
 
 pub overflow_cast-result : goal.overflow_cast-result
@@ -56,6 +56,6 @@ unfolding Bytes step refusals put
 returns g c =
     let a = c.args in
     let w = c.put_step-c.ensures in
-    let r = puts_the_same (state_of c.in_ok-t.t.now) a.s a.x (g.E.Engine.engine c.args.engine) (g.met.E.Engine.takes c.args.engine) _ c.learn_old.ensures a.v in
-    step_taken (g.E.Engine.engine c.args.engine) _ (Put a.s a.x a.v) _ (search rules) (search rules) _ _ (search rules) (λ i. omega (arith, c.type_inv.t i)) c.in_ok-put_refusal.ensures
+    let r = puts_the_same (state_of c.in_ok-t.t.now) a.s a.x (g.E.Engine.engine a.engine) (g.met.E.Engine.takes a.engine) _ c.learn_old.ensures a.v in
+    step_taken (g.E.Engine.engine a.engine) _ (Put a.s a.x a.v) _ (search rules) (search rules) _ _ (search rules) (λ i. omega (arith, c.type_inv.t i)) c.in_ok-put_refusal.ensures
     ((λ i. done a.x a.s (w.clock i) a.v) ∙ ap (λ (o : Outcome). o.answer) r) (w.after ∙ ap (λ (o : Outcome). o.after) r)
