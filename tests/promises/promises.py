@@ -39,7 +39,7 @@ WRITTEN = ("schedule.specs.Written", "Written")
 SHORT = ("forkcanyon.specs.ShortHost", "Promise")
 
 # A type parameter that is the kind of the call's engine, which is its last parameter: the promise names it first.
-ENGINE = re.compile(r"<([A-Z]): Engine>")
+ENGINE = re.compile(r"<([A-Z]): EngineValue>")
 
 # Lower functions that ask of their caller by a type alone, a table or a reply of its size: these types.
 SIZED = {"layout::set_counts", "layout::set_retired", "layout::clear", "reply::tell", "reply::answer"}
@@ -49,10 +49,10 @@ SIZES = {"&mut Bytes", "&mut [u8; Reply::BYTES]"}
 GIVES = {"From": "from_gives", "TryFrom": "try_from_gives", "FromStr": "from_str_gives", "Into": None, "TryInto": None}
 
 # What the rules on impls know by name, so that no `use` may give it another, nor anything else its name.
-KNOWN = re.compile(rf"\b(?:rows|Engine|Ranked|Short|{'|'.join(GIVES)})\b")
+KNOWN = re.compile(rf"\b(?:rows|by_value|Engine|EngineValue|ByType|Ranked|Short|{'|'.join(GIVES)})\b")
 
-# The trait Engine, and an impl of it, by whatever path it is named.
-OF_ENGINE = re.compile(r"\bEngine(?:<\s*>)?\s*for\b|^trait (?:r#)?Engine\b")
+# The traits Engine and EngineValue, and an impl of either, by whatever path it is named.
+OF_ENGINE = re.compile(r"\bEngine(?:Value)?(?:<\s*>)?\s*for\b|^trait (?:r#)?Engine(?:Value)?\b")
 
 # The crate that has no code of its own: it hands on the library's calls.
 LIBRARY = "crates/forkcanyon/"
@@ -176,7 +176,7 @@ def foreign(wanted, promise, taken, brought):
 def call_faults(said, exports, taken, ensures, text, proved):
     name, brought = said.split("::")[-1], set(names(text))
     if taken.startswith("<") and not ENGINE.fullmatch(taken.partition("(")[0]):
-        yield "its type parameter is not an Engine"
+        yield "its type parameter is not an EngineValue"
     if by := ENGINE.match(taken):
         found = parameters(taken)[0]
         if found[-1:] != [("engine", by[1])] or by[1] in [width for _, width in found[:-1]]:
@@ -228,7 +228,7 @@ def function_faults(said, words, taken, clauses, text, proved):
 
 
 def engine_faults(head, own, pinned):
-    """The trait Engine and its impls are those that are pinned, each the rules' own."""
+    """The traits Engine and EngineValue and their impls are those that are pinned, each the rules' own."""
     if OF_ENGINE.search(shell(head)) and own.get("engine") not in pinned:
         yield f"{head}: tests/promises/pinned.txt does not have this engine"
 

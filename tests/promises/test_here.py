@@ -9,7 +9,7 @@ from pathlib import Path
 from promises import HERE, faults
 
 # A public function up to its promise, and the promise.
-HEAD = re.compile(r"(pub (?:extern \"C\" )?fn (\w+)(?:<\w+: Engine>)?\([^{]*?)(?:\s+ensures (?:\w+ )?\{ (?:Promise|PromiseBy|Written) .*)+")
+HEAD = re.compile(r"(pub (?:extern \"C\" )?fn (\w+)(?:<\w+: EngineValue>)?\([^{]*?)(?:\s+ensures (?:\w+ )?\{ (?:Promise|PromiseBy|Written) .*)+")
 
 
 class Here(unittest.TestCase):
@@ -44,12 +44,13 @@ class Here(unittest.TestCase):
                 self.assertIn(f"{crate}::{head[2]}: it", " ".join(self.edited(name, head[0], head[1])))
 
     def test_each_method_without_its_ensures(self):
-        kept = (self.root / "crates" / "rows" / "src" / "lib.rt").read_text()
-        trait = kept[kept.index("pub trait Engine") : kept.index("pub struct Ranked")]
-        found = re.findall(r"fn (\w+)\([^{]*\{[^}]*\}(\s+ensures \{[^}]*\});", trait)
-        self.assertEqual(len(found), trait.count("fn "))
-        for name, ensures in found:
-            self.assertEqual(self.edited("rows/src/lib.rt", ensures, ""), [f"rows::{name}: it has no ensures"])
+        for name, begun, ended in [("lib", "pub trait Engine ", "pub struct Ranked"), ("by_value", "pub trait EngineValue", "pub struct ByType")]:
+            kept = (self.root / "crates" / "rows" / "src" / f"{name}.rt").read_text()
+            trait = kept[kept.index(begun) : kept.index(ended)]
+            found = re.findall(r"fn (\w+)\([^{]*\{[^}]*\}(\s+ensures \{[^}]*\});", trait)
+            self.assertEqual((len(found), trait.count("fn ")), (5, 5))
+            for method, ensures in found:
+                self.assertEqual(self.edited(f"rows/src/{name}.rt", ensures, ""), [f"rows::{method}: it has no ensures"])
 
     def test_each_conversion_without_its_law(self):
         for crate in ("answers", "numbers", "touch", "schedule"):
@@ -76,15 +77,18 @@ class Here(unittest.TestCase):
             ("rows", "use crate::Engine as Kind;\n\nstruct Lazy;\n\nimpl Kind for Lazy {\n"),
             ("rows", "pub struct Lazy<T>(T);\n\nimpl<T: Drop> Engine for Lazy<T> {\n"),
             ("table", "pub struct Lazy;\n\nimpl rows::Engine for Lazy {\n"),
+            ("rows", "pub struct Lazy<T>(T);\n\nimpl<T: Copy> EngineValue for Lazy<T> {\n"),
+            ("table", "pub struct Lazy;\n\nimpl rows::by_value::EngineValue for Lazy {\n"),
         ]:
             first = "#![tactic(auto)]\n"
             self.assertEqual(len(self.edited(f"{name}/src/lib.rt", first, first + begun + impl)), 1)
 
     def test_an_engine_twice(self):
-        twice = "pub struct Ranked;\n\nimpl Engine for Ranked {\n    ghost engine = { rules.ranked };\n}\n"
         first = "#![tactic(auto)]\n"
-        found = self.edited("rows/src/lib.rt", first, first + "pub mod other {\n" + twice + "}\n")
-        self.assertIn("crates/rows/src/lib.rt: impl Engine for Ranked: it stands twice", found)
+        for head, law in [("impl Engine for Ranked", "rules.ranked"), ("impl EngineValue for Ranked", "λ _. rules.ranked")]:
+            twice = f"pub struct Ranked;\n\n{head} {{\n    ghost engine = {{ {law} }};\n}}\n"
+            found = self.edited("rows/src/lib.rt", first, first + "pub mod other {\n" + twice + "}\n")
+            self.assertIn(f"crates/rows/src/lib.rt: {head}: it stands twice", found)
 
     def test_the_library_under_other_names(self):
         found = self.edited("forkcanyon/src/lib.rt", "drain, get, put,", "drain, get as put, put as get,")

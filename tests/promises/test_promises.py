@@ -159,7 +159,7 @@ class Small(unittest.TestCase):
 
     def test_a_call_with_its_engine(self):
         kept = "PromiseBy (E.engine engine) t.old (Get site) (left result t.new)"
-        taken = CODE + "pub fn get<E: Engine>(t: &mut [u8], site: usize, engine: E) -> u8 ensures { SAID } { 0 }"
+        taken = CODE + "pub fn get<E: EngineValue>(t: &mut [u8], site: usize, engine: E) -> u8 ensures { SAID } { 0 }"
         found = lambda said: " ".join(self.of(taken.replace("SAID", said), table=TABLE + "`forkcanyon_c::get`"))
         self.assertIn("not a promise that no second outcome is proved of", found(kept))
         self.assertIn("its promise is not Promise (E.engine engine) t.old", found(kept.replace("PromiseBy (E.engine engine)", "Promise")))
@@ -167,10 +167,10 @@ class Small(unittest.TestCase):
             path = self.of(taken.replace(", engine: E)", other).replace("SAID", kept), table=TABLE + "`forkcanyon_c::get`")
             self.assertIn("get: it does not take one engine, at its end, as `engine`", path, other)
 
-        path = self.of(taken.replace("E: Engine", "E: rows::Engine").replace("SAID", kept), table=TABLE + "`forkcanyon_c::get`")
-        self.assertIn("get: its type parameter is not an Engine", path)
-        named = taken.replace("<E: Engine>", "<Get: Engine>").replace("SAID", kept.replace("E.engine", "Get.engine"))
-        self.assertIn("get: its type parameter is not an Engine", self.of(named, table=TABLE + "`forkcanyon_c::get`"))
+        path = self.of(taken.replace("E: EngineValue", "E: rows::EngineValue").replace("SAID", kept), table=TABLE + "`forkcanyon_c::get`")
+        self.assertIn("get: its type parameter is not an EngineValue", path)
+        named = taken.replace("<E: EngineValue>", "<Get: EngineValue>").replace("SAID", kept.replace("E.engine", "Get.engine"))
+        self.assertIn("get: its type parameter is not an EngineValue", self.of(named, table=TABLE + "`forkcanyon_c::get`"))
 
     def test_a_buffer_of_its_size(self):
         for lent in ["t: &mut Bytes", "t: &mut [u8]", "t: &mut [u8], r: &mut [u8; Reply::BYTES]"]:
@@ -209,6 +209,9 @@ class Small(unittest.TestCase):
             "impl/* for */Engine/**/for(u8, u8)",
             "impl Engine<u8> for Lazy",
             "pub trait Engine: Sized",
+            "impl EngineValue for Lazy",
+            "impl<E: Engine> rows::by_value::EngineValue for Lazy<E>",
+            "pub trait EngineValue: Copy",
         ]:
             for law in ["", " ghost engine = { rules.ranked };"]:
                 found = self.engines(more=f"{head} {{{law} }}\n")
@@ -227,6 +230,8 @@ class Small(unittest.TestCase):
             "pub use host::{get as put};",
             "pub(crate) use host::get as put;",
             "use rows::Ranked as Short;",
+            "use rows::by_value::EngineValue as Kind;",
+            "use crate::by_value as kinds;",
             "type Quick = rows::Short;",
         ]:
             found = self.engines(more=line)

@@ -8,6 +8,9 @@ use schedule::Schedule;
 use std::io;
 use std::io::Write;
 
+#[cfg(test)]
+mod tests;
+
 fn say(rt: HostRuntime, case: u32, a: Answer) -> io::Result<()> {
     let mut text = [0u8; Schedule::LINE];
     let end = schedule::write_answer(&mut text, case, a);

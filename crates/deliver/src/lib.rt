@@ -15,10 +15,10 @@ use answers::{Answer, Done, Refusal};
 use clock::{Beyond, Clock};
 use layout::{Applied, Bytes, Record, Table, Updates};
 use refusals::inside;
-use rows::Engine;
+use rows::by_value::EngineValue;
 
 // The entry of the update's key at s, if it is replaced, and the applied count.
-fn deliver_step<E: Engine>(t: &mut Bytes, s: usize, o: usize, u: Record, c: u16, engine: E)
+fn deliver_step<E: EngineValue>(t: &mut Bytes, s: usize, o: usize, u: Record, c: u16, engine: E)
     requires { DeliverFits (state_of t.old) s o u c }
     ensures { state_of t.new ≡ (deliver (E.engine engine) (state_of t.old) s o).after }
 {
@@ -39,7 +39,7 @@ fn causes(t: &Bytes, s: usize, u: Record) -> Result<(), Beyond>
 }
 
 // One delivery attempted, on a sound table and two of its sites, the receiver live: what is left to ask is 9 and 10.
-pub fn attempt<E: Engine>(t: &mut Bytes, s: usize, o: usize, engine: E) -> Answer
+pub fn attempt<E: EngineValue>(t: &mut Bytes, s: usize, o: usize, engine: E) -> Answer
     requires { Attempts (state_of t.old) s o }
     ensures { (numbers_of result ≡ (try (E.engine engine) (state_of t.old) s o).answer) × (state_of t.new ≡ (try (E.engine engine) (state_of t.old) s o).after) }
 {
@@ -59,7 +59,7 @@ pub fn attempt<E: Engine>(t: &mut Bytes, s: usize, o: usize, engine: E) -> Answe
     })
 }
 
-pub fn deliver<E: Engine>(t: &mut [u8], s: usize, o: usize, engine: E) -> Answer
+pub fn deliver<E: EngineValue>(t: &mut [u8], s: usize, o: usize, engine: E) -> Answer
     ensures { PromiseBy (E.engine engine) t.old (Deliver s o) (served result t.new) }
 {
     let t = t.as_mut_array().ok_or(Refusal::Size)?;

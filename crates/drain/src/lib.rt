@@ -11,7 +11,7 @@ ghost use Rattle.drain.specs.Turns.{turn_of, Drains};
 use answers::{Answer, Done, Refusal, Unserved};
 use layout::Bytes;
 use refusals::inside;
-use rows::Engine;
+use rows::by_value::EngineValue;
 
 // Where a try is due, in a pass that has delivered or not.
 #[derive(Clone, Copy)]
@@ -51,7 +51,7 @@ fn next_turn(n: usize, s: usize, o: usize, delivered: bool) -> Option<Turn>
 }
 
 // The tries made are counted one for each delivery attempted; when one is due and the budget is spent it stops.
-fn passes<E: Engine>(t: &mut Bytes, n: usize, s: usize, budget: u16, engine: E) -> Answer
+fn passes<E: EngineValue>(t: &mut Bytes, n: usize, s: usize, budget: u16, engine: E) -> Answer
     requires { Drains (state_of t.old) n s }
     ensures { (numbers_of result ≡ (drain (E.engine engine) (state_of t.old) s budget).answer) × (state_of t.new ≡ (drain (E.engine engine) (state_of t.old) s budget).after) }
 {
@@ -76,7 +76,7 @@ fn passes<E: Engine>(t: &mut Bytes, n: usize, s: usize, budget: u16, engine: E) 
     Ok(Done::Drain { deliveries, tries })
 }
 
-pub fn drain<E: Engine>(t: &mut [u8], s: usize, budget: u16, engine: E) -> Answer
+pub fn drain<E: EngineValue>(t: &mut [u8], s: usize, budget: u16, engine: E) -> Answer
     ensures { PromiseBy (E.engine engine) t.old (Drain s budget) (served result t.new) }
 {
     let t = t.as_mut_array().ok_or(Refusal::Size)?;

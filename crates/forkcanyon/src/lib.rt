@@ -4,4 +4,4 @@
 pub use both::cold_list::cold;
 pub use both::{look, open, retire};
 pub use host::{adopt, deliver, drain, get, put, touch};
-pub use rows::{Engine, Ranked, Short};
+pub use rows::{Engine, Ranked, Short, by_value};

@@ -8,10 +8,10 @@ ghost use Rattle.rules.specs.Calls.{Put, Get, Deliver, Drain, Touch, Adopt};
 ghost use Rattle.host.specs.Host.{left, PromiseBy, most_tries};
 
 use reply::Reply;
-use rows::Engine;
+use rows::by_value::EngineValue;
 use touch::TouchRecord;
 
-pub fn put<E: Engine>(
+pub fn put<E: EngineValue>(
     site: u64,
     key: u64,
     value: u32,
@@ -28,7 +28,13 @@ pub fn put<E: Engine>(
     reply::answer(reply, a)
 }
 
-pub fn get<E: Engine>(site: u64, key: u64, table: &mut [u8], reply: &mut [u8], engine: E) -> u32
+pub fn get<E: EngineValue>(
+    site: u64,
+    key: u64,
+    table: &mut [u8],
+    reply: &mut [u8],
+    engine: E,
+) -> u32
     ensures { PromiseBy (E.engine engine) table.old reply.old (Get site key) (left result table.new reply.new) }
 {
     let Some(reply) = reply.as_mut_array() else {
@@ -38,7 +44,7 @@ pub fn get<E: Engine>(site: u64, key: u64, table: &mut [u8], reply: &mut [u8], e
     reply::answer(reply, a)
 }
 
-pub fn deliver<E: Engine>(
+pub fn deliver<E: EngineValue>(
     site: u64,
     origin: u64,
     table: &mut [u8],
@@ -61,7 +67,7 @@ fn tries_allowed(budget: u64) -> u16
     u16::try_from(budget).unwrap_or(u16::MAX)
 }
 
-pub fn drain<E: Engine>(
+pub fn drain<E: EngineValue>(
     site: u64,
     budget: u64,
     table: &mut [u8],
@@ -77,7 +83,7 @@ pub fn drain<E: Engine>(
     reply::answer(reply, a)
 }
 
-pub fn touch<E: Engine>(
+pub fn touch<E: EngineValue>(
     site: u64,
     key: u64,
     hour: u64,
@@ -104,7 +110,7 @@ pub fn touch<E: Engine>(
     reply::answer(reply, a)
 }
 
-pub fn adopt<E: Engine>(
+pub fn adopt<E: EngineValue>(
     site: u64,
     key: u64,
     origin: u64,

@@ -11,7 +11,7 @@ ghost use Rattle.look.specs.Asked.{entry_in, named_in};
 use answers::{Answer, Done, Refusal};
 use layout::{Bytes, Entries};
 use refusals::inside;
-use rows::Engine;
+use rows::by_value::EngineValue;
 use sound::Counts;
 
 pub fn look(t: &[u8], s: usize, x: usize) -> Answer
@@ -66,7 +66,14 @@ fn adopt_refusal(t: &Bytes, s: usize, x: usize, o: usize, c: usize) -> Result<()
 }
 
 // Of an entry that is as named: its step is get's, and so is its answer.
-pub fn adopt<E: Engine>(t: &mut [u8], s: usize, x: usize, o: usize, c: usize, engine: E) -> Answer
+pub fn adopt<E: EngineValue>(
+    t: &mut [u8],
+    s: usize,
+    x: usize,
+    o: usize,
+    c: usize,
+    engine: E,
+) -> Answer
     ensures { PromiseBy (E.engine engine) t.old (Adopt s x o c) (served result t.new) }
 {
     let t = t.as_mut_array().ok_or(Refusal::Size)?;

@@ -18,6 +18,10 @@ ghost use Rattle.rows.specs.Rows.{Row, Sent, Stored, Replaced, GetFits};
 use clock::Clock;
 use layout::{Bytes, Depends, Entries, Record, Table, Updates};
 
+pub mod by_value;
+
+use by_value::EngineValue;
+
 // The row of s, which is its own remainder: by that the compiler knows that s + 1 is above it, and keeps one square and not
 // two.
 fn row(t: &Bytes, s: usize) -> Clock
@@ -57,45 +61,44 @@ fn take_on(t: &mut Bytes, s: usize, e: Record)
     note(t, s, origin, e.clock);
 }
 
-// How a site keeps what it depends on, and whether puts are ranked by it. A call is given one: a type of a single
-// value, or a value that chooses.
-pub trait Engine: Copy {
+// How a site keeps what it depends on, and whether puts are ranked by it.
+pub trait Engine {
     // The engine of the rules that it is.
-    ghost engine: { Self → rules.Engine };
+    ghost engine: { rules.Engine };
 
     // What a get makes of the row.
-    fn learn_row(self, t: &mut Bytes, s: usize, e: Record)
+    fn learn_row(t: &mut Bytes, s: usize, e: Record)
         requires { (s < 8) × (e.tag < 8) }
-        ensures { Row (state_of t.old) s ((engine self).learned ((state_of t.old).depends s) (entry_of e)) (state_of t.new) };
+        ensures { Row (state_of t.old) s (engine.learned ((state_of t.old).depends s) (entry_of e)) (state_of t.new) };
 
     // What a put makes of it first.
-    fn learn_old(self, t: &mut Bytes, s: usize, x: usize)
+    fn learn_old(t: &mut Bytes, s: usize, x: usize)
         requires { GetFits (state_of t.old) s x }
-        ensures { Row (state_of t.old) s ((engine self).sent ((state_of t.old).depends s) ((state_of t.old).store s x)) (state_of t.new) };
+        ensures { Row (state_of t.old) s (engine.sent ((state_of t.old).depends s) ((state_of t.old).store s x)) (state_of t.new) };
 
     // With what an own put is stored.
-    fn own(self, t: &Bytes, s: usize) -> Clock
+    fn own(t: &Bytes, s: usize) -> Clock
         requires { s < 8 }
-        ensures { columns result ≡ (engine self).own ((state_of t.now).depends s) };
+        ensures { columns result ≡ engine.own ((state_of t.now).depends s) };
 
     // The row after the put (s, c).
-    fn leave_row(self, t: &mut Bytes, s: usize, c: u16)
+    fn leave_row(t: &mut Bytes, s: usize, c: u16)
         requires { s < 8 }
-        ensures { Row (state_of t.old) s ((engine self).left ((state_of t.old).depends s) s c) (state_of t.new) };
+        ensures { Row (state_of t.old) s (engine.left ((state_of t.old).depends s) s c) (state_of t.new) };
 
     // Whether the update replaces the entry of x at s.
-    fn replaces(self, t: &Bytes, s: usize, x: usize, u: Record, o: usize) -> bool
+    fn replaces(t: &Bytes, s: usize, x: usize, u: Record, o: usize) -> bool
         requires { (s < 8) × (x < 64) }
-        ensures { result ≡ (engine self).replaces (update_of u) o ((state_of t.now).store s x) };
+        ensures { result ≡ engine.replaces (update_of u) o ((state_of t.now).store s x) };
 
-    ghost takes: { (e : Self) → Takes (engine e) };
+    ghost takes: { Takes engine };
 }
 
 // In full and ranked: a get takes the entry on, as does a put what it overwrites, and the higher rank replaces.
 #[derive(Clone, Copy)]
 pub struct Ranked;
 
-impl Engine for Ranked {
+impl EngineValue for Ranked {
     ghost engine = { λ _. rules.ranked };
 
     ghost takes = { λ _. ranked_takes };
@@ -129,7 +132,7 @@ impl Engine for Ranked {
 #[derive(Clone, Copy)]
 pub struct Short;
 
-impl Engine for Short {
+impl EngineValue for Short {
     ghost engine = { λ _. rules.short };
 
     ghost takes = { λ _. short_takes };
@@ -153,8 +156,61 @@ impl Engine for Short {
     }
 }
 
+// Both by their types alone. A type has no `self` to be given, so each method stands twice, here in a line.
+impl Engine for Ranked {
+    ghost engine = { rules.ranked };
+
+    ghost takes = { ranked_takes };
+
+    fn learn_row(t: &mut Bytes, s: usize, e: Record) {
+        Ranked.learn_row(t, s, e);
+    }
+
+    fn learn_old(t: &mut Bytes, s: usize, x: usize) {
+        Ranked.learn_old(t, s, x);
+    }
+
+    fn own(t: &Bytes, s: usize) -> Clock {
+        Ranked.own(t, s)
+    }
+
+    fn leave_row(t: &mut Bytes, s: usize, c: u16) {
+        Ranked.leave_row(t, s, c);
+    }
+
+    fn replaces(t: &Bytes, s: usize, x: usize, u: Record, o: usize) -> bool {
+        Ranked.replaces(t, s, x, u, o)
+    }
+}
+
+impl Engine for Short {
+    ghost engine = { rules.short };
+
+    ghost takes = { short_takes };
+
+    fn learn_row(t: &mut Bytes, s: usize, e: Record) {
+        Short.learn_row(t, s, e);
+    }
+
+    fn learn_old(t: &mut Bytes, s: usize, x: usize) {
+        Short.learn_old(t, s, x);
+    }
+
+    fn own(t: &Bytes, s: usize) -> Clock {
+        Short.own(t, s)
+    }
+
+    fn leave_row(t: &mut Bytes, s: usize, c: u16) {
+        Short.leave_row(t, s, c);
+    }
+
+    fn replaces(t: &Bytes, s: usize, x: usize, u: Record, o: usize) -> bool {
+        Short.replaces(t, s, x, u, o)
+    }
+}
+
 // One of the two, by a value that a caller chooses as it runs: hence a match in each.
-impl Engine for answers::Engine {
+impl EngineValue for answers::Engine {
     ghost engine = { engine_of };
 
     ghost takes = { engine_takes };
@@ -196,7 +252,7 @@ impl Engine for answers::Engine {
 }
 
 // What a get makes of the row: it takes on the entry, or its pair alone.
-pub fn learn_row<E: Engine>(t: &mut Bytes, s: usize, e: Record, engine: E)
+pub fn learn_row<E: EngineValue>(t: &mut Bytes, s: usize, e: Record, engine: E)
     requires { (s < 8) × (e.tag < 8) }
     ensures { Row (state_of t.old) s ((E.engine engine).learned ((state_of t.old).depends s) (entry_of e)) (state_of t.new) }
 {
@@ -204,7 +260,7 @@ pub fn learn_row<E: Engine>(t: &mut Bytes, s: usize, e: Record, engine: E)
 }
 
 // A put first takes on the dependence of the entry it overwrites, as a get would; with short lists it does not.
-pub fn learn_old<E: Engine>(t: &mut Bytes, s: usize, x: usize, engine: E)
+pub fn learn_old<E: EngineValue>(t: &mut Bytes, s: usize, x: usize, engine: E)
     requires { GetFits (state_of t.old) s x }
     ensures { Row (state_of t.old) s ((E.engine engine).sent ((state_of t.old).depends s) ((state_of t.old).store s x)) (state_of t.new) }
 {
@@ -260,7 +316,7 @@ fn set_put(t: &mut Bytes, s: usize, x: usize, o: usize, v: u32, c: u16, depends:
     );
 }
 
-pub fn store_own<E: Engine>(t: &mut Bytes, s: usize, x: usize, v: u32, c: u16, engine: E)
+pub fn store_own<E: EngineValue>(t: &mut Bytes, s: usize, x: usize, v: u32, c: u16, engine: E)
     requires { (s < 8) × (x < 64) }
     ensures { Stored (state_of t.old) s x s v c ((E.engine engine).own ((state_of t.old).depends s)) (state_of t.new) }
 {
@@ -269,7 +325,7 @@ pub fn store_own<E: Engine>(t: &mut Bytes, s: usize, x: usize, v: u32, c: u16, e
 }
 
 // The row after the put (s, c): the pair joins it, or is all that is left.
-pub fn leave_row<E: Engine>(t: &mut Bytes, s: usize, c: u16, engine: E)
+pub fn leave_row<E: EngineValue>(t: &mut Bytes, s: usize, c: u16, engine: E)
     requires { s < 8 }
     ensures { Row (state_of t.old) s ((E.engine engine).left ((state_of t.old).depends s) s c) (state_of t.new) }
 {
@@ -293,7 +349,7 @@ fn outranks(u: Record, o: usize, old: Record) -> bool
 }
 
 // The entry of the update's key at s, where the update replaces it.
-pub fn replace<E: Engine>(t: &mut Bytes, s: usize, o: usize, u: Record, c: u16, engine: E)
+pub fn replace<E: EngineValue>(t: &mut Bytes, s: usize, o: usize, u: Record, c: u16, engine: E)
     requires { (s < 8) × (o < 8) × (u.tag < 64) }
     ensures { Replaced (E.engine engine) (state_of t.old) s o (update_of u) c (state_of t.new) }
 {

@@ -13,11 +13,11 @@ ghost use Rattle.table.specs.Fits.{PutFits};
 use answers::{Answer, Done, Refusal};
 use layout::{Applied, Bytes, Entries, Record};
 use refusals::inside;
-use rows::Engine;
+use rows::by_value::EngineValue;
 use sound::Counts;
 
 // The update at its place, the entry, the applied count and the row, which has taken on what is overwritten.
-pub fn put_step<E: Engine>(t: &mut Bytes, s: usize, x: usize, v: u32, engine: E) -> u16
+pub fn put_step<E: EngineValue>(t: &mut Bytes, s: usize, x: usize, v: u32, engine: E) -> u16
     requires { PutFits (E.engine engine) (state_of t.old) s x }
     ensures clock { result ≡ next (state_of t.old) s s }
     ensures after { state_of t.new ≡ (put (E.engine engine) (state_of t.old) s x v).after }
@@ -30,7 +30,7 @@ pub fn put_step<E: Engine>(t: &mut Bytes, s: usize, x: usize, v: u32, engine: E)
     c
 }
 
-pub fn put<E: Engine>(t: &mut [u8], s: usize, x: usize, v: u32, engine: E) -> Answer
+pub fn put<E: EngineValue>(t: &mut [u8], s: usize, x: usize, v: u32, engine: E) -> Answer
     ensures { PromiseBy (E.engine engine) t.old (Put s x v) (served result t.new) }
 {
     let t = t.as_mut_array().ok_or(Refusal::Size)?;
@@ -46,7 +46,7 @@ pub fn put<E: Engine>(t: &mut [u8], s: usize, x: usize, v: u32, engine: E) -> An
 }
 
 // The entry; if its clock is not 0, the dependency row takes it on.
-pub fn get_step<E: Engine>(t: &mut Bytes, s: usize, x: usize, engine: E) -> Record
+pub fn get_step<E: EngineValue>(t: &mut Bytes, s: usize, x: usize, engine: E) -> Record
     requires { GetFits (state_of t.old) s x }
     ensures entry { entry_of result ≡ (state_of t.old).store s x }
     ensures after { state_of t.new ≡ learn (E.engine engine) (state_of t.old) s x }
@@ -59,7 +59,7 @@ pub fn get_step<E: Engine>(t: &mut Bytes, s: usize, x: usize, engine: E) -> Reco
     e
 }
 
-pub fn get<E: Engine>(t: &mut [u8], s: usize, x: usize, engine: E) -> Answer
+pub fn get<E: EngineValue>(t: &mut [u8], s: usize, x: usize, engine: E) -> Answer
     ensures { PromiseBy (E.engine engine) t.old (Get s x) (served result t.new) }
 {
     let t = t.as_mut_array().ok_or(Refusal::Size)?;

@@ -14,7 +14,7 @@ ghost use Rattle.touch.specs.Touchers.{number_of};
 use answers::{Answer, Done, Refusal};
 use layout::{Bytes, Entries, Record};
 use refusals::inside;
-use rows::Engine;
+use rows::by_value::EngineValue;
 
 // What the fields of a touch record are worth, hour (16 bits), toucher (3), tier (2), eleven zeros; and how many of the last
 // two there are.
@@ -160,7 +160,7 @@ fn table_refusal(t: &Bytes, s: usize, x: usize, toucher: Toucher) -> Result<(), 
 
 // Gets the key and puts its record; refused, it has not got it either. The toucher and the tier are numbers, as C gives them:
 // any may come, and 14 answers those that name nothing.
-pub fn touch<E: Engine>(
+pub fn touch<E: EngineValue>(
     t: &mut [u8],
     s: usize,
     x: usize,

@@ -7,12 +7,12 @@ use Rattle.answers.proofs.Serves.{other_size, refused_inside, step_taken}
 use Rattle.drain.proofs.drain.Goals as goal
 
 pub returns-in_err-t : goal.returns-in_err-t
-returns-in_err-t g c = other_size (g.E.Engine.engine c.args.engine) _ (Drain c.args.s c.args.budget) _ (search rules) (search rules) refl
+returns-in_err-t g c = other_size (g.E.EngineValue.engine c.args.engine) _ (Drain c.args.s c.args.budget) _ (search rules) (search rules) refl
 
 pub returns-in_err-counts : goal.returns-in_err-counts
 unfolding refusals
 returns-in_err-counts g c =
-    refused_inside (g.E.Engine.engine c.args.engine) _ (Drain c.args.s c.args.budget) _ (search rules) (search rules) _ _ (search rules) c.in_err-counts.ensures.refusal
+    refused_inside (g.E.EngineValue.engine c.args.engine) _ (Drain c.args.s c.args.budget) _ (search rules) (search rules) _ _ (search rules) c.in_err-counts.ensures.refusal
 
 pub passes-requires : goal.passes-requires
 unfolding refusals
@@ -26,5 +26,5 @@ unfolding Bytes step refusals
 returns g c =
     let a = c.args in
     let w = c.passes.ensures in
-    step_taken (g.E.Engine.engine a.engine) _ (Drain a.s a.budget) _ (search rules) (search rules) _ _ (search rules) (λ i. omega (arith, c.type_inv.t i))
+    step_taken (g.E.EngineValue.engine a.engine) _ (Drain a.s a.budget) _ (search rules) (search rules) _ _ (search rules) (λ i. omega (arith, c.type_inv.t i))
     c.in_ok-counts.ensures.refusal w.0 w.1

@@ -13,7 +13,7 @@ answered d = record { code = d.code; key = 0; site = 0; clock = length d.made; v
 pub loop-turn-init : goal.loop-turn-init
 loop-turn-init g c =
     let a = c.args in
-    drain_starts (g.E.Engine.engine a.engine) (state_of a.t.now) a.n a.s a.budget _ c.requires c.next_turn-turn.ensures
+    drain_starts (g.E.EngineValue.engine a.engine) (state_of a.t.now) a.n a.s a.budget _ c.requires c.next_turn-turn.ensures
 
 pub returns-then-tries-budget : goal.returns-then-tries-budget
 unfolding drain

@@ -6,9 +6,9 @@ use Rattle.host.proofs.adopt.Goals as goal
 pub returns-in_default : goal.returns-in_default
 returns-in_default g c =
     let a = c.args in
-    hosts_nothing (g.E.Engine.engine a.engine) a.table.now a.reply.now (Adopt a.site a.key a.origin a.clock) (search rules)
+    hosts_nothing (g.E.EngineValue.engine a.engine) a.table.now a.reply.now (Adopt a.site a.key a.origin a.clock) (search rules)
 
 pub returns : goal.returns
 returns g c =
     let a = c.args in
-    hosts_call (g.E.Engine.engine a.engine) a.table.now a.reply.now (Adopt a.site a.key a.origin a.clock) c.adopt-a.result (search rules) c.adopt-a.ensures c.answer.ensures
+    hosts_call (g.E.EngineValue.engine a.engine) a.table.now a.reply.now (Adopt a.site a.key a.origin a.clock) c.adopt-a.result (search rules) c.adopt-a.ensures c.answer.ensures

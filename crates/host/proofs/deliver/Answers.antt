@@ -6,9 +6,9 @@ use Rattle.host.proofs.deliver.Goals as goal
 pub returns-in_default : goal.returns-in_default
 returns-in_default g c =
     let a = c.args in
-    hosts_nothing (g.E.Engine.engine a.engine) a.table.now a.reply.now (Deliver a.site a.origin) (search rules)
+    hosts_nothing (g.E.EngineValue.engine a.engine) a.table.now a.reply.now (Deliver a.site a.origin) (search rules)
 
 pub returns : goal.returns
 returns g c =
     let a = c.args in
-    hosts_call (g.E.Engine.engine a.engine) a.table.now a.reply.now (Deliver a.site a.origin) c.deliver-a.result (search rules) c.deliver-a.ensures c.answer.ensures
+    hosts_call (g.E.EngineValue.engine a.engine) a.table.now a.reply.now (Deliver a.site a.origin) c.deliver-a.result (search rules) c.deliver-a.ensures c.answer.ensures

@@ -6,9 +6,9 @@ use Rattle.host.proofs.get.Goals as goal
 pub returns-in_default : goal.returns-in_default
 returns-in_default g c =
     let a = c.args in
-    hosts_nothing (g.E.Engine.engine a.engine) a.table.now a.reply.now (Get a.site a.key) (search rules)
+    hosts_nothing (g.E.EngineValue.engine a.engine) a.table.now a.reply.now (Get a.site a.key) (search rules)
 
 pub returns : goal.returns
 returns g c =
     let a = c.args in
-    hosts_call (g.E.Engine.engine a.engine) a.table.now a.reply.now (Get a.site a.key) c.get-a.result (search rules) c.get-a.ensures c.answer.ensures
+    hosts_call (g.E.EngineValue.engine a.engine) a.table.now a.reply.now (Get a.site a.key) c.get-a.result (search rules) c.get-a.ensures c.answer.ensures

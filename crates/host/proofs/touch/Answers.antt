@@ -11,9 +11,9 @@ returns-in_default g c =
     let a = c.args in
     let code = c.wrong_size.ensures ∙ ap behind c.new.ensures.refusal ∙ behind_words (touch_words a.hour a.toucher a.tier) (omega arith) in
     (λ i. left (code i) a.table.now a.reply.now)
-    ∙ hosts_nothing (g.E.Engine.engine a.engine) a.table.now a.reply.now (Touch a.site a.key a.hour a.toucher a.tier) (search rules)
+    ∙ hosts_nothing (g.E.EngineValue.engine a.engine) a.table.now a.reply.now (Touch a.site a.key a.hour a.toucher a.tier) (search rules)
 
 pub returns : goal.returns
 returns g c =
     let a = c.args in
-    hosts_call (g.E.Engine.engine a.engine) a.table.now a.reply.now (Touch a.site a.key a.hour a.toucher a.tier) c.touch-a.result (search rules) c.touch-a.ensures c.answer.ensures
+    hosts_call (g.E.EngineValue.engine a.engine) a.table.now a.reply.now (Touch a.site a.key a.hour a.toucher a.tier) c.touch-a.result (search rules) c.touch-a.ensures c.answer.ensures

@@ -9,11 +9,11 @@ use Rattle.rows.proofs.Fits.{get_fits}
 use Rattle.look.proofs.adopt.Goals as goal
 
 pub returns-in_err-t : goal.returns-in_err-t
-returns-in_err-t g c = other_size (g.E.Engine.engine c.args.engine) _ (Adopt c.args.s c.args.x c.args.o c.args.c) _ (search rules) (search rules) refl
+returns-in_err-t g c = other_size (g.E.EngineValue.engine c.args.engine) _ (Adopt c.args.s c.args.x c.args.o c.args.c) _ (search rules) (search rules) refl
 
 pub returns-in_err-adopt_refusal : goal.returns-in_err-adopt_refusal
 returns-in_err-adopt_refusal g c =
-    refused_inside (g.E.Engine.engine c.args.engine) _ (Adopt c.args.s c.args.x c.args.o c.args.c) _ (search rules) (search rules) _ _ (search rules) c.in_err-adopt_refusal.ensures
+    refused_inside (g.E.EngineValue.engine c.args.engine) _ (Adopt c.args.s c.args.x c.args.o c.args.c) _ (search rules) (search rules) _ _ (search rules) c.in_err-adopt_refusal.ensures
 
 pub get_step-e-requires : goal.get_step-e-requires
 unfolding refusals
@@ -34,5 +34,5 @@ unfolding Bytes step get
 returns g c =
     let a = c.args in
     let w = c.get_step-e.ensures in
-    step_taken (g.E.Engine.engine a.engine) _ (Adopt a.s a.x a.o a.c) _ (search rules) (search rules) _ _ (search rules) (λ i. omega (arith, c.type_inv.t i))
+    step_taken (g.E.EngineValue.engine a.engine) _ (Adopt a.s a.x a.o a.c) _ (search rules) (search rules) _ _ (search rules) (λ i. omega (arith, c.type_inv.t i))
     c.in_ok-adopt_refusal.ensures (λ i. done a.x (w.entry i).origin (w.entry i).clock (w.entry i).value) w.after

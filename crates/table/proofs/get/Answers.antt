@@ -9,11 +9,11 @@ use Rattle.rows.proofs.Fits.{get_fits}
 use Rattle.table.proofs.get.Goals as goal
 
 pub returns-in_err-t : goal.returns-in_err-t
-returns-in_err-t g c = other_size (g.E.Engine.engine c.args.engine) _ (Get c.args.s c.args.x) _ (search rules) (search rules) refl
+returns-in_err-t g c = other_size (g.E.EngineValue.engine c.args.engine) _ (Get c.args.s c.args.x) _ (search rules) (search rules) refl
 
 pub returns-in_err-get_refusal : goal.returns-in_err-get_refusal
 returns-in_err-get_refusal g c =
-    refused_inside (g.E.Engine.engine c.args.engine) _ (Get c.args.s c.args.x) _ (search rules) (search rules) _ _ (search rules) c.in_err-get_refusal.ensures.refusal
+    refused_inside (g.E.EngineValue.engine c.args.engine) _ (Get c.args.s c.args.x) _ (search rules) (search rules) _ _ (search rules) c.in_err-get_refusal.ensures.refusal
 
 pub get_step-e-requires : goal.get_step-e-requires
 unfolding refusals
@@ -33,5 +33,5 @@ unfolding Bytes step get
 returns g c =
     let a = c.args in
     let w = c.get_step-e.ensures in
-    step_taken (g.E.Engine.engine a.engine) _ (Get a.s a.x) _ (search rules) (search rules) _ _ (search rules) (λ i. omega (arith, c.type_inv.t i))
+    step_taken (g.E.EngineValue.engine a.engine) _ (Get a.s a.x) _ (search rules) (search rules) _ _ (search rules) (λ i. omega (arith, c.type_inv.t i))
     c.in_ok-get_refusal.ensures.refusal (λ i. done a.x (w.entry i).origin (w.entry i).clock (w.entry i).value) w.after

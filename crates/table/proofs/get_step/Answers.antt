@@ -7,10 +7,10 @@ use Rattle.table.proofs.get_step.Goals as goal
 pub returns-then-e-eq0-clause-after : goal.returns-then-e-eq0-clause-after
 returns-then-e-eq0-clause-after g c =
     let a = c.args in
-    learn_none (state_of a.t.now) (g.E.Engine.engine a.engine) a.s a.x (sym (ap (λ (p : Fields). (to_entry p).clock) c.record_at-e.ensures) ∙ c.if-e-eq0.true)
+    learn_none (state_of a.t.now) (g.E.EngineValue.engine a.engine) a.s a.x (sym (ap (λ (p : Fields). (to_entry p).clock) c.record_at-e.ensures) ∙ c.if-e-eq0.true)
 
 pub returns-clause-after : goal.returns-clause-after
 returns-clause-after g c =
     let a = c.args in
     let e = c.record_at-e in
-    c.learn_row.ensures ∙ learn_some (state_of a.t.now) (g.E.Engine.engine a.engine) a.s a.x (entry_of e.result) (ap to_entry e.ensures) c.if-e-eq0.false
+    c.learn_row.ensures ∙ learn_some (state_of a.t.now) (g.E.EngineValue.engine a.engine) a.s a.x (entry_of e.result) (ap to_entry e.ensures) c.if-e-eq0.false

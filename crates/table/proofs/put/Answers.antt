@@ -10,12 +10,12 @@ use Rattle.rows.proofs.Sending.{sends_as_is, puts_the_same}
 use Rattle.table.proofs.put.Goals as goal
 
 pub returns-in_err-t : goal.returns-in_err-t
-returns-in_err-t g c = other_size (g.E.Engine.engine c.args.engine) _ (Put c.args.s c.args.x c.args.v) _ (search rules) (search rules) refl
+returns-in_err-t g c = other_size (g.E.EngineValue.engine c.args.engine) _ (Put c.args.s c.args.x c.args.v) _ (search rules) (search rules) refl
 
 pub returns-in_err-put_refusal : goal.returns-in_err-put_refusal
 unfolding refusals
 returns-in_err-put_refusal g c =
-    refused_inside (g.E.Engine.engine c.args.engine) _ (Put c.args.s c.args.x c.args.v) _ (search rules) (search rules) _ _ (search rules) c.in_err-put_refusal.ensures
+    refused_inside (g.E.EngineValue.engine c.args.engine) _ (Put c.args.s c.args.x c.args.v) _ (search rules) (search rules) _ _ (search rules) c.in_err-put_refusal.ensures
 
 pub learn_old-requires : goal.learn_old-requires
 unfolding refusals
@@ -36,7 +36,7 @@ put_step-c-requires g c =
       site = f.site;
       key = f.key;
       clock = λ z. R.clock (sym (ap (λ (S : State). S.applied a.s a.s) e) ∙ z);
-      taken = sends_as_is S a.s a.x (g.E.Engine.engine a.engine) (g.met.E.Engine.takes a.engine) _ e;
+      taken = sends_as_is S a.s a.x (g.E.EngineValue.engine a.engine) (g.met.E.EngineValue.takes a.engine) _ e;
     }
 
 pub overflow_cast-result : goal.overflow_cast-result
@@ -56,6 +56,6 @@ unfolding Bytes step refusals put
 returns g c =
     let a = c.args in
     let w = c.put_step-c.ensures in
-    let r = puts_the_same (state_of c.in_ok-t.t.now) a.s a.x (g.E.Engine.engine a.engine) (g.met.E.Engine.takes a.engine) _ c.learn_old.ensures a.v in
-    step_taken (g.E.Engine.engine a.engine) _ (Put a.s a.x a.v) _ (search rules) (search rules) _ _ (search rules) (λ i. omega (arith, c.type_inv.t i)) c.in_ok-put_refusal.ensures
+    let r = puts_the_same (state_of c.in_ok-t.t.now) a.s a.x (g.E.EngineValue.engine a.engine) (g.met.E.EngineValue.takes a.engine) _ c.learn_old.ensures a.v in
+    step_taken (g.E.EngineValue.engine a.engine) _ (Put a.s a.x a.v) _ (search rules) (search rules) _ _ (search rules) (λ i. omega (arith, c.type_inv.t i)) c.in_ok-put_refusal.ensures
     ((λ i. done a.x a.s (w.clock i) a.v) ∙ ap (λ (o : Outcome). o.answer) r) (w.after ∙ ap (λ (o : Outcome). o.after) r)

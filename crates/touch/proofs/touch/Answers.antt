@@ -15,13 +15,13 @@ pub returns-in_err-record : goal.returns-in_err-record
 returns-in_err-record g c =
     let a = c.args in
     let w = c.in_err-record in
-    refused_words (g.E.Engine.engine a.engine) _ (Touch a.s a.x a.hour a.toucher a.tier) _ w.field-0.0 (search rules) w.ensures.refusal
+    refused_words (g.E.EngineValue.engine a.engine) _ (Touch a.s a.x a.hour a.toucher a.tier) _ w.field-0.0 (search rules) w.ensures.refusal
 
 pub returns-in_err-t : goal.returns-in_err-t
 returns-in_err-t g c =
     let a = c.args in
     let call : Call = Touch a.s a.x a.hour a.toucher a.tier in
-    let E = g.E.Engine.engine a.engine in
+    let E = g.E.EngineValue.engine a.engine in
     other_size E _ call _ (search rules) (search rules) (size_behind E a.t.now call c.in_ok-record.ensures.refusal)
 
 pub returns-in_err-table_refusal : goal.returns-in_err-table_refusal
@@ -30,7 +30,7 @@ returns-in_err-table_refusal g c =
     let k = c.in_ok-record.ensures in
     let S = state_of c.in_ok-t.t.now in
     let call : Call = Touch a.s a.x a.hour a.toucher a.tier in
-    let E = g.E.Engine.engine a.engine in
+    let E = g.E.EngineValue.engine a.engine in
     refused_inside E _ call _ (search rules) (search rules) _ _ (search rules)
     (c.in_err-table_refusal.ensures ∙ (λ i. first (touch_refusals S a.s a.x (k.record.1 i))) ∙ inside_behind E a.t.now call S k.refusal)
 
@@ -46,7 +46,7 @@ put_step-c-requires g c =
     let a = c.args in
     let k = c.in_ok-record.ensures in
     let S = state_of c.in_ok-t.t.now in
-    put_fits (g.E.Engine.engine a.engine) (g.met.E.Engine.takes a.engine) S _ a.s a.x (ready S a.s a.x a.hour a.toucher a.tier k.refusal k.record.1 c.in_ok-table_refusal.ensures).put c.get_step-e.ensures.after
+    put_fits (g.E.EngineValue.engine a.engine) (g.met.E.EngineValue.takes a.engine) S _ a.s a.x (ready S a.s a.x a.hour a.toucher a.tier k.refusal k.record.1 c.in_ok-table_refusal.ensures).put c.get_step-e.ensures.after
 
 pub overflow_cast-result : goal.overflow_cast-result
 overflow_cast-result g c =
@@ -66,7 +66,7 @@ pub returns : goal.returns
 unfolding Bytes step touch put
 returns g c =
     let a = c.args in
-    let E = g.E.Engine.engine a.engine in
+    let E = g.E.EngineValue.engine a.engine in
     let k = c.in_ok-record.ensures in
     let S = state_of c.in_ok-t.t.now in
     let e = c.get_step-e.ensures in

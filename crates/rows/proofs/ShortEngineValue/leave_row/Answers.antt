@@ -2,7 +2,7 @@ use Rattle.std.proofs.Common.{◌∙◌, ap}
 use Rattle.clock.specs.Map.{◌⟨◌≔◌⟩}
 use Rattle.clock.specs.Vector.{Vector, note}
 use Rattle.layout.specs.State.{state_of, with_depends}
-use Rattle.rows.proofs.ShortEngine.leave_row.Goals as goal
+use Rattle.rows.proofs.ShortEngineValue.leave_row.Goals as goal
 
 pub returns : goal.returns
 returns c =
