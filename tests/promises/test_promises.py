@@ -166,7 +166,6 @@ class Small(unittest.TestCase):
         for other in [", kind: E)", ", engine: E, other: E)", ", engine: E, more: u8)", ", engine: u8)", ")"]:
             path = self.of(taken.replace(", engine: E)", other).replace("SAID", kept), table=TABLE + "`forkcanyon_c::get`")
             self.assertIn("get: it does not take one engine, at its end, as `engine`", path, other)
-
         path = self.of(taken.replace("E: EngineValue", "E: rows::EngineValue").replace("SAID", kept), table=TABLE + "`forkcanyon_c::get`")
         self.assertIn("get: its type parameter is not an EngineValue", path)
         named = taken.replace("<E: EngineValue>", "<Get: EngineValue>").replace("SAID", kept.replace("E.engine", "Get.engine"))
@@ -198,10 +197,7 @@ class Small(unittest.TestCase):
 
     def test_another_engine(self):
         for head in [
-            "impl Engine for Lazy",
-            "unsafe impl Engine for Lazy",
-            "impl rows::Engine for Lazy",
-            "impl ::rows::r#Engine for Lazy",
+            *(f"{words} for Lazy" for words in ("impl Engine", "unsafe impl Engine", "impl rows::Engine", "impl ::rows::r#Engine")),
             "impl<T: Drop> Engine for Lazy<T>",
             "impl<T> rows\n    ::\n    Engine\nfor Lazy<T> where T: for<'a> Fn(&'a u8) -> u8",
             "impl<const N: usize> Engine for [u8; { N }]",
@@ -209,9 +205,7 @@ class Small(unittest.TestCase):
             "impl/* for */Engine/**/for(u8, u8)",
             "impl Engine<u8> for Lazy",
             "pub trait Engine: Sized",
-            "impl EngineValue for Lazy",
-            "impl<E: Engine> rows::by_value::EngineValue for Lazy<E>",
-            "pub trait EngineValue: Copy",
+            *("impl EngineValue for Lazy", "impl<E: Engine> rows::by_value::EngineValue for Lazy<E>", "pub trait EngineValue: Copy"),
         ]:
             for law in ["", " ghost engine = { rules.ranked };"]:
                 found = self.engines(more=f"{head} {{{law} }}\n")
